@@ -1,0 +1,4 @@
+pub mod Writes
+pub mod Limits
+pub mod Joins
+pub mod Runs
