@@ -1,18 +1,18 @@
 -- What reads and writes of a board answer, by those of its parts.
 use mathlib.Core.Bool.{Bool, true, false, cond, _&&_}
-use mathlib.Core.List.{List, _++_}
+use mathlib.Core.List.{List, [], _++_, append-nil}
 use mathlib.Core.Logic.{⊎-elim}
 use mathlib.Core.Path.{_≡_, refl, sym, ap, ap₂, _∙_}
 use Prim.Native.Nat.{ℕ, min, _+_, _-_, _<_, _≤_}
 use native.Mathlib.Omega.{arith}
 use lib.Dec.{leb, ltb}
-use lib.ListN.{length, getD, set}
-use Rattle.std.proofs.shelf.Lists.{length-append, length-set, getD-append-left, getD-append-right, set-append-left, set-append-right}
+use lib.ListN.{length, getD, set, take}
+use Rattle.std.proofs.shelf.Lists.{length-append, length-take, take-all, length-set, getD-append-left, getD-append-right, set-append-left, set-append-right}
 use Rattle.std.proofs.shelf.Tests.{lt-ltb, le-ltb, le-leb, lt-leb, and-from, and-left, and-right, cond-true, cond-false, cases-lt}
 use Rattle.std.specs.declared.result.Result.{Result}
 use Rattle.std.specs.declared.result.Result.the-variants.{Ok, Err}
-use Rattle.wave.specs.Memory.{Memory, most, size, meaning, fetch, store, granted, kept, written}
-use Rattle.wave.specs.Lent.{used}
+use Rattle.wave.specs.Memory.{Memory, Alike, most, size, meaning, fetch, store, granted, kept, written}
+use Rattle.wave.specs.Lent.{used, ram, rom}
 use Rattle.wave.specs.Board.{joined, either, board, second-written}
 use Rattle.wave.specs.declared.memory.Refusal.{Refusal}
 use Rattle.wave.specs.declared.memory.Refusal.the-variants.{ReadOnly, PastEnd}
@@ -49,6 +49,24 @@ module _ (a b : List ℕ) where
         ∙ sym (fetch-inside b (place - length a) i))
         (λ p. fetch-past (joined a b) place (omega arith) ∙ sym (fetch-past b (place - length a) p))
         (cases-lt (place - length a) (length b))
+
+-- nothing is joined to bytes that a memory uses
+pub joined-none : (lent : List ℕ) → joined (used lent) (used []) ≡ used lent
+unfolding joined used
+joined-none lent = ap (take most) (append-nil (take most lent)) ∙ take-all most (take most lent) (omega (arith, length-take most lent))
+
+-- a RAM, and a board of it with an empty ROM
+pub alike-with-none : (lent : List ℕ) → Alike (ram lent) (board (ram lent) (rom []))
+alike-with-none lent =
+    let same = joined-none lent in
+    record {
+      bytes = sym same;
+      takes = λ place h.
+          let there : ltb place (length (used lent)) ≡ true = lt-ltb place (length (used lent)) h in
+          let joined-there : ltb place (length (joined (used lent) (used []))) ≡ true = ap (λ bs. ltb place (length bs)) same ∙ there in
+          ap (λ t. t && true) there
+          ∙ sym (ap₂ (λ s t. s && cond t (t && true) (rom [] .takes (place - length (used lent)))) joined-there there);
+    }
 
 -- Writes
 

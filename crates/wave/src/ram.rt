@@ -43,6 +43,7 @@ pub impl Store for Ram<'_> as RamStore {
         ensures answer { λ r. ⌜ r ≡ granted (store (ram (now (now (self .entry) .lent))) place byte) ⌝ }
         ensures after { λ _. ⌜ ram (now (now (self .exit) .lent)) ≡ written (ram (now (now (self .entry) .lent))) place byte ⌝ }
         ensures beyond { λ _. ⌜ beyond (now (now (self .exit) .lent)) ≡ beyond (now (now (self .entry) .lent)) ⌝ }
+        ensures lender { λ _. ⌜ name (now (self .exit) .lent) ≡ name (now (self .entry) .lent) ⌝ }
     {
         write_used(self.lent, place, byte)
     }
