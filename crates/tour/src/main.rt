@@ -1,7 +1,14 @@
 // A tour of the package: one task from beginning to end, and a line for each thing that was done.
 ghost use mathlib.Core.Bool.{true};
 ghost use mathlib.Core.Path.{_≡_};
+use calls::Call;
+use calls::run;
+use chip::chip::Chip;
+use kind::Kind;
 use std::io;
+use voice::frame::Converter;
+use voice::frame::Frame;
+use voice::frame::Side;
 use wave::access::Access;
 use wave::access::answer_alike;
 use wave::board::Board;
@@ -156,7 +163,93 @@ fn show_comparison(rt: &LibcRuntime) -> io::Result<()> {
     }
 }
 
+// A voice at the start of the wave, one place a tick, looping; and then its first tick.
+const FIRST_TICK: [Call; 8] = [
+    Call::Write(0, 128),
+    Call::Write(1, 0x12),
+    Call::Write(3, 0x08),
+    Call::Write(5, 0x12),
+    Call::Write(6, 0x12),
+    Call::Write(8, 0xFE),
+    Call::Write(7, 0x81),
+    Call::Tick,
+];
+
+const BLANK: Side = Side {
+    contributions: [0; 8],
+    total: 0,
+    word: 0,
+};
+
+// The first tick of that voice, over a memory with the wave; at the last converter an inspection too.
+fn show_tick<M: Store + Drop>(
+    rt: &LibcRuntime,
+    memory: M,
+    converter: Converter,
+    bits: u8,
+) -> io::Result<()> {
+    let mut frame = Frame {
+        left: BLANK,
+        right: BLANK,
+    };
+    let mut chip = run(
+        memory,
+        Kind::Rf5c68a,
+        converter,
+        0,
+        &FIRST_TICK,
+        &mut frame,
+        &mut [],
+    );
+    let Frame { left, right } = frame;
+    println!(
+        rt,
+        "played a voice: totals {} and {}, words of {bits} bits {} and {}",
+        left.total, right.total, left.word, right.word
+    )?;
+    match converter {
+        Converter::Bits8 => show_inspection(rt, &mut chip),
+        Converter::Bits16 | Converter::Bits10 => Ok(()),
+    }
+}
+
+// Looks at the start of the wave while the chip sounds.
+fn show_inspection<M: Store>(rt: &LibcRuntime, chip: &mut Chip<M>) -> io::Result<()> {
+    let mut shown = [0; 4];
+    match chip.inspect(START % 0x1000, &mut shown) {
+        Ok(()) => println!(rt, "inspected the wave while it sounds: {shown:?}")?,
+        Err(refusal) => {
+            let number = refusal.number();
+            println!(rt, "was refused an inspection: {number}")?;
+        }
+    }
+    match chip.read(0x1000) {
+        Ok(byte) => println!(rt, "read {byte} through the window"),
+        Err(refusal) => {
+            let number = refusal.number();
+            println!(rt, "was refused a window read meanwhile: {number}")
+        }
+    }
+}
+
+// A voice on a chip, at each converter.
+fn show_chip(rt: &LibcRuntime) -> io::Result<()> {
+    for (converter, bits) in [
+        (Converter::Bits16, 16),
+        (Converter::Bits10, 10),
+        (Converter::Bits8, 8),
+    ] {
+        let mut bytes = vec![in rt.alloc(); 0u8; 65_536]?;
+        let mut ram = Ram::new(bytes.as_mut_slice());
+        if load(&mut ram, START, &TRIANGLE).is_ok() {
+            show_tick(rt, ram, converter, bits)?;
+        }
+    }
+    Ok(())
+}
+
 fn main(rt: LibcRuntime) -> io::Result<()> {
     show_board(&rt)?;
-    show_comparison(&rt)
+    show_comparison(&rt)?;
+    show_chip(&rt)
 }

@@ -7,6 +7,7 @@ use lib.Dec.{ltb}
 use lib.ListN.{length, getD, set}
 use Rattle.std.specs.declared.result.Result.{Result}
 use Rattle.std.specs.declared.result.Result.the-variants.{Ok, Err}
+use Rattle.wave.specs.Outcome.{kept}
 use Rattle.wave.specs.declared.memory.Refusal.{Refusal}
 use Rattle.wave.specs.declared.memory.Refusal.the-variants.{ReadOnly, PastEnd}
 
@@ -47,15 +48,6 @@ store m place byte =
     (cond (m .takes place) (Ok (record { bytes = set (m .bytes) place byte; takes = m .takes })) (Err ReadOnly))
     (Err PastEnd)
 
--- what a write answers
-abbrev pub granted : Result Memory Refusal → Result (Unit {0}) Refusal
-granted (Ok n) = Ok tt
-granted (Err e) = Err e
-
--- the memory after a write was tried: a refused one changes nothing
-abbrev pub kept : Memory → Result Memory Refusal → Memory
-kept m (Ok n) = n
-kept m (Err e) = m
-
+-- the memory after a write was tried
 abbrev pub written : Memory → ℕ → ℕ → Memory
 written m place byte = kept m (store m place byte)

@@ -28,7 +28,8 @@ pub enum Answer {
 
 pub fn perform<M: Store>(memory: &mut M, access: Access) -> Answer
     ensures answer { λ r. ⌜ r ≡ answer (means M·Source M·Store (now (memory .entry))) access ⌝ }
-    ensures after { λ _. ⌜ means M·Source M·Store (now (memory .exit)) ≡ after (means M·Source M·Store (now (memory .entry))) access ⌝ }
+    ensures after { λ _. ⌜
+        means M·Source M·Store (now (memory .exit)) ≡ after (means M·Source M·Store (now (memory .entry))) access ⌝ }
 {
     match access {
         Access::Read(place) => match memory.read(place) {
@@ -60,7 +61,9 @@ pub fn answer_alike<M: Store, N: Store>(first: &mut M, second: &mut N, accesses:
 
 fn perform_both<M: Store, N: Store>(first: &mut M, second: &mut N, access: Access) -> bool
     ensures answers { λ r. ⌜
-        Decides r (answer (means M·Source M·Store (now (first .entry))) access ≡ answer (means N·Source N·Store (now (second .entry))) access) ⌝ }
+        Decides r
+        (answer (means M·Source M·Store (now (first .entry))) access
+        ≡ answer (means N·Source N·Store (now (second .entry))) access) ⌝ }
     ensures first { λ _. ⌜ means M·Source M·Store (now (first .exit)) ≡ after (means M·Source M·Store (now (first .entry))) access ⌝ }
     ensures second { λ _. ⌜ means N·Source N·Store (now (second .exit)) ≡ after (means N·Source N·Store (now (second .entry))) access ⌝ }
 {

@@ -2,7 +2,8 @@
 ghost use mathlib.Core.Path.{_≡_};
 ghost use Prim.Native.Nat.{_≤_};
 ghost use lib.ListN.{length};
-ghost use Rattle.wave.specs.Memory.{most, fetch, store, granted, written};
+ghost use Rattle.wave.specs.Outcome.{granted};
+ghost use Rattle.wave.specs.Memory.{most, fetch, store, written};
 ghost use Rattle.wave.specs.Means.{means};
 ghost use Rattle.wave.specs.Board.{joined, either, board, second-written};
 use crate::memory::MOST;
@@ -32,14 +33,22 @@ pub impl<A: Store, B: Store> Store for Board<A, B> as BoardStore {
     ghost takes = { λ s. either (means A·Source A·Store (s .first)) (means B·Source B·Store (s .second)) };
 
     fn write(&mut self, place: usize, byte: u8) -> Result<(), Refusal>
-        ensures answer { λ r. ⌜ r ≡ granted (store (board (means A·Source A·Store (now (self .entry) .first)) (means B·Source B·Store (now (self .entry) .second))) place byte) ⌝ }
+        ensures answer { λ r. ⌜
+            r ≡ granted (store (board (means A·Source A·Store (now (self .entry) .first)) (means B·Source B·Store (now (self .entry) .second))) place byte) ⌝ }
         ensures after { λ _. ⌜
             board (means A·Source A·Store (now (self .exit) .first)) (means B·Source B·Store (now (self .exit) .second))
-            ≡ written (board (means A·Source A·Store (now (self .entry) .first)) (means B·Source B·Store (now (self .entry) .second))) place byte ⌝ }
-        ensures first { λ _. ⌜ means A·Source A·Store (now (self .exit) .first) ≡ written (means A·Source A·Store (now (self .entry) .first)) place byte ⌝ }
+            ≡ written
+            (board (means A·Source A·Store (now (self .entry) .first)) (means B·Source B·Store (now (self .entry) .second)))
+            place byte ⌝ }
+        ensures first { λ _. ⌜
+            means A·Source A·Store (now (self .exit) .first)
+            ≡ written (means A·Source A·Store (now (self .entry) .first)) place byte ⌝ }
         ensures second { λ _. ⌜
             means B·Source B·Store (now (self .exit) .second)
-            ≡ second-written (means A·Source A·Store (now (self .entry) .first)) (means B·Source B·Store (now (self .entry) .second)) place byte ⌝ }
+            ≡ second-written
+            (means A·Source A·Store (now (self .entry) .first))
+            (means B·Source B·Store (now (self .entry) .second))
+            place byte ⌝ }
     {
         write_joined(&mut self.first, &mut self.second, place, byte)
     }
@@ -71,14 +80,22 @@ fn write_joined<A: Store, B: Store>(
     place: usize,
     byte: u8,
 ) -> Result<(), Refusal>
-    ensures answer { λ r. ⌜ r ≡ granted (store (board (means A·Source A·Store (now (first .entry))) (means B·Source B·Store (now (second .entry)))) place byte) ⌝ }
+    ensures answer { λ r. ⌜
+        r ≡ granted (store (board (means A·Source A·Store (now (first .entry))) (means B·Source B·Store (now (second .entry)))) place byte) ⌝ }
     ensures after { λ _. ⌜
         board (means A·Source A·Store (now (first .exit))) (means B·Source B·Store (now (second .exit)))
-        ≡ written (board (means A·Source A·Store (now (first .entry))) (means B·Source B·Store (now (second .entry)))) place byte ⌝ }
-    ensures first { λ _. ⌜ means A·Source A·Store (now (first .exit)) ≡ written (means A·Source A·Store (now (first .entry))) place byte ⌝ }
+        ≡ written
+        (board (means A·Source A·Store (now (first .entry))) (means B·Source B·Store (now (second .entry))))
+        place byte ⌝ }
+    ensures first { λ _. ⌜
+        means A·Source A·Store (now (first .exit))
+        ≡ written (means A·Source A·Store (now (first .entry))) place byte ⌝ }
     ensures second { λ _. ⌜
         means B·Source B·Store (now (second .exit))
-        ≡ second-written (means A·Source A·Store (now (first .entry))) (means B·Source B·Store (now (second .entry))) place byte ⌝ }
+        ≡ second-written
+        (means A·Source A·Store (now (first .entry)))
+        (means B·Source B·Store (now (second .entry)))
+        place byte ⌝ }
 {
     let size = first.size();
     if place < size {

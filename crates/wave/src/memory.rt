@@ -4,8 +4,9 @@ ghost use mathlib.Core.Bool.{Bool};
 ghost use mathlib.Core.List.{List};
 ghost use mathlib.Core.Path.{_≡_};
 ghost use Prim.Native.Nat.{ℕ, _≤_};
-ghost use lib.ListN.{length};
-ghost use Rattle.wave.specs.Memory.{number, most, fetch, store, granted, written, meaning};
+ghost use lib.ListN.{length, getD};
+ghost use Rattle.wave.specs.Outcome.{granted};
+ghost use Rattle.wave.specs.Memory.{number, most, fetch, store, written, meaning};
 
 // The most places that a memory uses; bytes beyond them are never reached.
 pub const MOST: usize = 131_072;
@@ -51,4 +52,14 @@ pub trait Store: Source {
         ensures after { λ _. ⌜
             meaning (Self·Source .bytes (now (self .exit))) (takes (now (self .exit)))
             ≡ written (meaning (Self·Source .bytes (now (self .entry))) (takes (now (self .entry)))) place byte ⌝ };
+}
+
+// The byte at a place, 0 past the end.
+pub fn byte_at<S: Source>(memory: &S, place: usize) -> u8
+    ensures { λ r. ⌜ r ≡ getD (S·Source .bytes (now (memory .entry))) place 0 ⌝ }
+{
+    match memory.read(place) {
+        Ok(byte) => byte,
+        Err(_) => 0,
+    }
 }

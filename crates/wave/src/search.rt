@@ -1,10 +1,7 @@
 // The stop search: where a sample that is being read would meet its stop byte.
-ghost use mathlib.Core.Path.{_≡_};
-ghost use Prim.Native.Nat.{_<_};
-ghost use lib.Dec.{eqb};
-ghost use lib.ListN.{length, getD};
-ghost use Rattle.wave.specs.Search.{stop, FirstStop};
+ghost use Rattle.wave.specs.Search.{FirstStop};
 use crate::memory::Source;
+use crate::memory::byte_at;
 
 // A voice that reads this byte goes on at its loop start.
 pub const STOP: u8 = 0xFF;
@@ -14,19 +11,9 @@ pub fn first_stop<S: Source>(memory: &S, from: usize) -> Option<usize>
     ensures { λ r. ⌜ FirstStop (bytes (now (memory .entry))) from r ⌝ }
 {
     for place in from..memory.size() {
-        if holds_stop(memory, place) {
+        if byte_at(memory, place) == STOP {
             return Some(place);
         }
     }
     None
-}
-
-fn holds_stop<S: Source>(memory: &S, place: usize) -> bool
-    requires { ⌜ place < length (bytes (now memory)) ⌝ }
-    ensures { λ r. ⌜ r ≡ eqb (getD (bytes (now (memory .entry))) place 0) stop ⌝ }
-{
-    match memory.read(place) {
-        Ok(byte) => byte == STOP,
-        Err(_) => false,
-    }
 }

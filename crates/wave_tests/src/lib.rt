@@ -4,6 +4,8 @@ mod boards;
 #[cfg(test)]
 mod cases;
 #[cfg(test)]
+mod comparisons;
+#[cfg(test)]
 mod parts;
 #[cfg(test)]
 mod searches;

@@ -1,0 +1,4 @@
+pub mod Bit
+pub mod Each
+pub mod Shown
+pub mod Checks

@@ -1,0 +1,5 @@
+pub mod Refusal
+pub mod Control
+pub mod Registers
+pub mod Port
+pub mod Chip

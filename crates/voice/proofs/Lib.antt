@@ -1,0 +1,3 @@
+pub mod Sounds
+pub mod Levels
+pub mod Sums

@@ -1,0 +1,3 @@
+pub mod Voice
+pub mod Frame
+pub mod Clip
