@@ -1,4 +1,6 @@
 // The calls of a chip as values, and what holds of every list of them.
+#![tactic(auto)]
+
 ghost use Rattle.std.specs.Prelude.{◌≡◌, List, length};
 ghost use Rattle.wave.specs.Means.{means};
 ghost use Rattle.chip.specs.Chip.{state};
@@ -47,10 +49,10 @@ pub fn perform<M: Store>(
     frame: &mut Frame,
     buffer: &mut [u8],
 ) -> Answer
-    ensures answer { result ≡ answer call (length buffer.old) (state M.Source M.Store chip.old) }
-    ensures after { state M.Source M.Store chip.new ≡ after call (state M.Source M.Store chip.old) }
-    ensures frame { frame.new ≡ framed call (state M.Source M.Store chip.old) frame.old }
-    ensures buffer { buffer.new ≡ buffered call (state M.Source M.Store chip.old) buffer.old }
+    ensures answer { result ≡ answer call (length buffer.old) (state M.bytes M.takes chip.old) }
+    ensures after { state M.bytes M.takes chip.new ≡ after call (state M.bytes M.takes chip.old) }
+    ensures frame { frame.new ≡ framed call (state M.bytes M.takes chip.old) frame.old }
+    ensures buffer { buffer.new ≡ buffered call (state M.bytes M.takes chip.old) buffer.old }
 {
     match call {
         Call::Reset => {
@@ -78,12 +80,12 @@ pub fn run<M: Store>(
     frame: &mut Frame,
     buffer: &mut [u8],
 ) -> Chip<M>
-    ensures after { state M.Source M.Store result ≡ after_all calls.now (new (means M.Source M.Store memory) kind converter mutes) }
+    ensures after { state M.bytes M.takes result ≡ after_all calls.now (new (means M.bytes M.takes memory) kind converter mutes) }
     ensures frame { frame.new
-        ≡ framed_all calls.now (new (means M.Source M.Store memory) kind converter mutes) frame.old }
+        ≡ framed_all calls.now (new (means M.bytes M.takes memory) kind converter mutes) frame.old }
     ensures buffer { buffer.new
-        ≡ buffered_all calls.now (new (means M.Source M.Store memory) kind converter mutes) buffer.old }
-    ensures law { Law (new (means M.Source M.Store memory) kind converter mutes) calls.now }
+        ≡ buffered_all calls.now (new (means M.bytes M.takes memory) kind converter mutes) buffer.old }
+    ensures law { Law (new (means M.bytes M.takes memory) kind converter mutes) calls.now }
 {
     let mut chip = begin(memory, kind, converter, mutes);
     perform_all(&mut chip, calls, frame, buffer);
@@ -91,16 +93,16 @@ pub fn run<M: Store>(
 }
 
 fn begin<M: Store>(memory: M, kind: Kind, converter: Converter, mutes: u8) -> Chip<M>
-    ensures new { state M.Source M.Store result ≡ new (means M.Source M.Store memory) kind converter mutes }
-    ensures law { (calls : List Call) → Law (new (means M.Source M.Store memory) kind converter mutes) calls }
+    ensures new { state M.bytes M.takes result ≡ new (means M.bytes M.takes memory) kind converter mutes }
+    ensures law { (calls : List Call) → Law (new (means M.bytes M.takes memory) kind converter mutes) calls }
 {
     Chip::new(memory, kind, converter, mutes)
 }
 
 fn perform_all<M: Store>(chip: &mut Chip<M>, calls: &[Call], frame: &mut Frame, buffer: &mut [u8])
-    ensures after { state M.Source M.Store chip.new ≡ after_all calls.now (state M.Source M.Store chip.old) }
-    ensures frame { frame.new ≡ framed_all calls.now (state M.Source M.Store chip.old) frame.old }
-    ensures buffer { buffer.new ≡ buffered_all calls.now (state M.Source M.Store chip.old) buffer.old }
+    ensures after { state M.bytes M.takes chip.new ≡ after_all calls.now (state M.bytes M.takes chip.old) }
+    ensures frame { frame.new ≡ framed_all calls.now (state M.bytes M.takes chip.old) frame.old }
+    ensures buffer { buffer.new ≡ buffered_all calls.now (state M.bytes M.takes chip.old) buffer.old }
 {
     for call in calls {
         let _ = perform(chip, *call, frame, buffer);

@@ -77,7 +77,7 @@ impl<M> Chip<M> {
 impl<M: Source> Chip<M> {
     // A host's read.
     pub fn read(&self, address: u16) -> Result<u8, Refusal>
-        ensures { result ≡ read (M.Source.bytes self.now.memory) self.now.registers address }
+        ensures { result ≡ read (M.bytes self.now.memory) self.now.registers address }
     {
         check_port(&self.memory, address)?;
         if address < WINDOW_START {
@@ -99,10 +99,10 @@ impl<M: Source> Chip<M> {
     pub fn inspect(&mut self, offset: u16, buffer: &mut [u8]) -> Result<(), Refusal>
         ensures answer { result
             ≡ granted
-            (inspect (M.Source.bytes self.old.memory) self.old.registers offset (length buffer.old)) }
+            (inspect (M.bytes self.old.memory) self.old.registers offset (length buffer.old)) }
         ensures buffer { buffer.new
             ≡ kept buffer.old
-            (inspect (M.Source.bytes self.old.memory) self.old.registers offset (length buffer.old)) }
+            (inspect (M.bytes self.old.memory) self.old.registers offset (length buffer.old)) }
         ensures same { self.new ≡ self.old }
     {
         check_size(&self.memory)?;
@@ -116,12 +116,12 @@ impl<M: Source> Chip<M> {
 
     // One tick, which fills the frame.
     pub fn tick(&mut self, frame: &mut Frame) -> Result<(), Refusal>
-        ensures answer { result ≡ granted (tick (M.Source.bytes self.old.memory) self.old.registers) }
+        ensures answer { result ≡ granted (tick (M.bytes self.old.memory) self.old.registers) }
         ensures registers { self.new.registers
-            ≡ kept self.old.registers (tick (M.Source.bytes self.old.memory) self.old.registers) }
+            ≡ kept self.old.registers (tick (M.bytes self.old.memory) self.old.registers) }
         ensures memory { self.new.memory ≡ self.old.memory }
         ensures frame { frame.new
-            ≡ filled frame.old (tick (M.Source.bytes self.old.memory) self.old.registers) }
+            ≡ filled frame.old (tick (M.bytes self.old.memory) self.old.registers) }
         ensures ranged { result ≡ Ok tt → Ranged frame.new }
     {
         check_size(&self.memory)?;
@@ -134,9 +134,9 @@ impl<M: Source> Chip<M> {
 impl<M: Store> Chip<M> {
     // A host's write.
     pub fn write(&mut self, address: u16, byte: u8) -> Result<(), Refusal>
-        ensures answer { result ≡ granted (write (state M.Source M.Store self.old) address byte) }
-        ensures after { state M.Source M.Store self.new
-            ≡ kept (state M.Source M.Store self.old) (write (state M.Source M.Store self.old) address byte) }
+        ensures answer { result ≡ granted (write (state M.bytes M.takes self.old) address byte) }
+        ensures after { state M.bytes M.takes self.new
+            ≡ kept (state M.bytes M.takes self.old) (write (state M.bytes M.takes self.old) address byte) }
     {
         check_port(&self.memory, address)?;
         if address < WINDOW_START {
@@ -155,7 +155,7 @@ impl<M: Store> Chip<M> {
 // Fills a buffer with the bytes of a memory from a place on.
 fn show<S: Source>(memory: &S, place: usize, buffer: &mut [u8])
     requires { (place < 2 ^ 32) × (length buffer.old ≤ 4096) }
-    ensures { buffer.new ≡ shown (S.Source.bytes memory.now) place (length buffer.old) }
+    ensures { buffer.new ≡ shown (S.bytes memory.now) place (length buffer.old) }
 {
     for (i, byte) in buffer.iter_mut().enumerate() {
         *byte = byte_at(memory, place + i);
@@ -163,7 +163,7 @@ fn show<S: Source>(memory: &S, place: usize, buffer: &mut [u8])
 }
 
 fn check_size<S: Source>(memory: &S) -> Result<(), Refusal>
-    ensures { result ≡ sized (S.Source.bytes memory.now) (Ok tt) }
+    ensures { result ≡ sized (S.bytes memory.now) (Ok tt) }
 {
     if memory.size() == MEMORY_SIZE {
         Ok(())
@@ -173,7 +173,7 @@ fn check_size<S: Source>(memory: &S) -> Result<(), Refusal>
 }
 
 fn check_port<S: Source>(memory: &S, address: u16) -> Result<(), Refusal>
-    ensures { result ≡ sized (S.Source.bytes memory.now) (port address (Ok tt) (Ok tt)) }
+    ensures { result ≡ sized (S.bytes memory.now) (port address (Ok tt) (Ok tt)) }
 {
     check_size(memory)?;
     if address > LAST_ADDRESS {

@@ -1,4 +1,6 @@
 // The sound chip: its registers, its host port, and its tick.
+#![tactic(auto)]
+
 pub mod chip;
 pub mod control;
 pub mod refusal;

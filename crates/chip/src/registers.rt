@@ -67,7 +67,7 @@ impl Registers {
 
     // One tick over a memory.
     pub fn tick<S: Source>(&mut self, memory: &S)
-        ensures exact { self.new ≡ ticked (S.Source.bytes memory.now) self.old }
+        ensures exact { self.new ≡ ticked (S.bytes memory.now) self.old }
         ensures bounded { AllBounded self.new.voices }
     {
         tick_voices(&mut self.voices, memory, self.control.on, self.channel);
@@ -125,7 +125,7 @@ fn write_settings(settings: &mut Settings, address: u16, byte: u8)
 }
 
 fn tick_voices<S: Source>(voices: &mut [Voice; 8], memory: &S, on: bool, channel: u8)
-    ensures exact { voices.new ≡ voices_after (S.Source.bytes memory.now) on channel voices.old }
+    ensures exact { voices.new ≡ voices_after (S.bytes memory.now) on channel voices.old }
     ensures bounded { AllBounded voices.new }
 {
     for k in 0..8usize {

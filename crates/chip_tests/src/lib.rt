@@ -1,4 +1,6 @@
 // Chips over memories, by scripts of calls.
+#![tactic(auto)]
+
 #[cfg(test)]
 mod inspection;
 #[cfg(test)]

@@ -1,4 +1,6 @@
 // What `stem` is asked to do: a mute set, and a log to play.
+#![tactic(auto)]
+
 ghost use Rattle.std.specs.Prelude.{◌≡◌};
 ghost use Rattle.job.specs.Job.{number, layer, work, values, decided};
 

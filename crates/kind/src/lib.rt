@@ -1,4 +1,6 @@
 // The two sound chips, and the clocks that they bear.
+#![tactic(auto)]
+
 ghost use Rattle.std.specs.Prelude.{◌≡◌};
 ghost use Rattle.kind.specs.Clocks.{top_clock, clock_fits};
 

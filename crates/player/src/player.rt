@@ -64,11 +64,11 @@ impl<'a> Player<'a> {
 
     // One step: the header, a record or a tick, which fills the frame.
     pub fn step<M: Store>(&mut self, chip: &mut Chip<M>, frame: &mut Frame) -> Progress
-        ensures outcome { stepped (state M.Source M.Store chip.new) (stand self.new) result
-            ≡ step self.old.reader.log.now (state M.Source M.Store chip.old) (stand self.old) }
+        ensures outcome { stepped (state M.bytes M.takes chip.new) (stand self.new) result
+            ≡ step self.old.reader.log.now (state M.bytes M.takes chip.old) (stand self.old) }
         ensures frame { frame.new
             ≡ framed frame.old
-            (step self.old.reader.log.now (state M.Source M.Store chip.old) (stand self.old)) result }
+            (step self.old.reader.log.now (state M.bytes M.takes chip.old) (stand self.old)) result }
         ensures log { self.new.reader.log.now ≡ self.old.reader.log.now }
     {
         let bit = self.reader.place;
@@ -106,8 +106,8 @@ impl<'a> Player<'a> {
     // Does what a record asks.
     fn obey<M: Store>(&mut self, record: Record<'_>, bit: usize, chip: &mut Chip<M>) -> Progress
         requires { (self.old.state ≡ State.Between) × (in_window (values «record») ≡ true) }
-        ensures outcome { stepped (state M.Source M.Store chip.new) (stand self.new) result
-            ≡ obeyed (state M.Source M.Store chip.old) bit self.old.reader.place (values «record».entry) }
+        ensures outcome { stepped (state M.bytes M.takes chip.new) (stand self.new) result
+            ≡ obeyed (state M.bytes M.takes chip.old) bit self.old.reader.place (values «record».entry) }
         ensures quiet { (before : FrameValue) (s : Stepped) → framed before s result ≡ before }
         ensures log { self.new.reader.log.now ≡ self.old.reader.log.now }
     {
@@ -138,10 +138,10 @@ impl<'a> Player<'a> {
         chip: &mut Chip<M>,
         frame: &mut Frame,
     ) -> Progress
-        ensures outcome { stepped (state M.Source M.Store chip.new) (stand self.new) result
-            ≡ waited (state M.Source M.Store chip.old) self.old.reader.place bit left
-            (tick (M.Source.bytes chip.old.memory) chip.old.registers) }
-        ensures frame { frame.new ≡ filled frame.old (tick (M.Source.bytes chip.old.memory) chip.old.registers) }
+        ensures outcome { stepped (state M.bytes M.takes chip.new) (stand self.new) result
+            ≡ waited (state M.bytes M.takes chip.old) self.old.reader.place bit left
+            (tick (M.bytes chip.old.memory) chip.old.registers) }
+        ensures frame { frame.new ≡ filled frame.old (tick (M.bytes chip.old.memory) chip.old.registers) }
         ensures log { self.new.reader.log.now ≡ self.old.reader.log.now }
     {
         match chip.tick(frame) {
@@ -198,8 +198,8 @@ fn check_header(log: &[u8], kind: Kind) -> Result<(), LogFault>
 fn put<M: Store>(chip: &mut Chip<M>, address: u16, bytes: &[u8]) -> Result<(), (Refusal, u16)>
     requires { address + length bytes.now ≤ 65535 }
     ensures { (bit place : ℕ) →
-        put bytes.now address bit place (state M.Source M.Store chip.old)
-        ≡ put_down result bit place (state M.Source M.Store chip.new) }
+        put bytes.now address bit place (state M.bytes M.takes chip.old)
+        ≡ put_down result bit place (state M.bytes M.takes chip.new) }
 {
     let mut at = address;
     for byte in bytes {

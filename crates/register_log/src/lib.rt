@@ -1,4 +1,6 @@
 // Register logs: what was written to a sound chip, and when.
+#![tactic(auto)]
+
 pub mod fault;
 mod field;
 pub mod header;

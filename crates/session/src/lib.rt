@@ -1,4 +1,6 @@
 // Stem sessions: a mix and its stems, on which the same calls are tried.
+#![tactic(auto)]
+
 pub mod call;
 pub mod station;
 pub mod stems;

@@ -31,7 +31,7 @@ pub trait AnyStation {
 }
 
 impl<M: Store> AnyStation for Station<'_, '_, M> {
-    ghost model = { λ s. model M.Source M.Store s };
+    ghost model = { λ s. model M.bytes M.takes s };
 
     fn try_call(&mut self, call: Call) {
         match call {
@@ -43,7 +43,7 @@ impl<M: Store> AnyStation for Station<'_, '_, M> {
 
 impl<M: Store> Station<'_, '_, M> {
     fn perform(&mut self, call: calls::Call)
-        ensures { model M.Source M.Store self.new ≡ tried (Call.Chip call) (model M.Source M.Store self.old) }
+        ensures { model M.bytes M.takes self.new ≡ tried (Call.Chip call) (model M.bytes M.takes self.old) }
     {
         let Station {
             chip,
@@ -56,7 +56,7 @@ impl<M: Store> Station<'_, '_, M> {
     }
 
     fn step(&mut self)
-        ensures { model M.Source M.Store self.new ≡ tried Call.Step (model M.Source M.Store self.old) }
+        ensures { model M.bytes M.takes self.new ≡ tried Call.Step (model M.bytes M.takes self.old) }
     {
         let Station {
             chip,

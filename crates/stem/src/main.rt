@@ -1,5 +1,7 @@
 // Plays a register log: a byte for the mute set and the log come from standard input.
 // As yet it only decides whether it would play it.
+#![tactic(auto)]
+
 use kind::Kind;
 use std::io;
 use std::io::Read;

@@ -1,4 +1,6 @@
 // A tour of the package: one task from beginning to end, and a line for each thing that was done.
+#![tactic(auto)]
+
 ghost use Rattle.std.specs.Prelude.{◌≡◌, true};
 
 use calls::{Call, run};

@@ -1,10 +1,5 @@
 -- What a voice reads, and where it lands.
-use Rattle.std.proofs.Common.{◌≡◌, ℕ, Bool, true, false, cond, ltb, List, length, get_or, Ok, Err, sym, refl, ap, ◌∙◌, ap₂, arith}
-use Rattle.std.proofs.lemmas.List.{get_or_past}
-use Rattle.std.proofs.lemmas.Bool.{ltb-false}
-use Rattle.wave.specs.Memory.{fetch}
-use Rattle.wave.specs.declared.memory.Refusal.{Refusal}
-use Rattle.wave.specs.declared.memory.Refusal.TheVariants.{PastEnd}
+use Rattle.std.proofs.Common.{◌≡◌, ℕ, List, ap, ◌∙◌, ap₂}
 use Rattle.voice.specs.Voice.{landing, look, heard, onward, sounded}
 use Rattle.voice.specs.declared.voice.Contribution.{Contribution}
 use Rattle.voice.specs.declared.voice.Phase.TheVariants.{At}

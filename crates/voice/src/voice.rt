@@ -95,7 +95,7 @@ impl Voice {
 
     // One tick: a voice that is on sounds, any other is put at rest.
     pub fn tick<S: Source>(&mut self, memory: &S, on: bool)
-        ensures exact { self.new ≡ tick (S.Source.bytes memory.now) on self.old }
+        ensures exact { self.new ≡ tick (S.bytes memory.now) on self.old }
         ensures bounded { Bounded self.new.latest }
     {
         *self = if on {
@@ -106,7 +106,7 @@ impl Voice {
     }
 
     fn sounded<S: Source>(&self, memory: &S) -> Voice
-        ensures exact { result ≡ sounded (S.Source.bytes memory.now) self.now }
+        ensures exact { result ≡ sounded (S.bytes memory.now) self.now }
         ensures bounded { Bounded result.latest }
     {
         let (p, byte) = self.settings.land(memory, self.settings.onward(self.phase));
@@ -160,8 +160,8 @@ impl Settings {
 
     // Where a tick that reads first at `p` ends, and the byte there: each is read once.
     fn land<S: Source>(self, memory: &S, p: u32) -> (u32, u8)
-        ensures place { result.0 ≡ landing (S.Source.bytes memory.now) self p }
-        ensures byte { result.1 ≡ look (S.Source.bytes memory.now) (landing (S.Source.bytes memory.now) self p) }
+        ensures place { result.0 ≡ landing (S.bytes memory.now) self p }
+        ensures byte { result.1 ≡ look (S.bytes memory.now) (landing (S.bytes memory.now) self p) }
     {
         let byte = look(memory, p);
         if byte == STOP {
@@ -185,7 +185,7 @@ impl Settings {
 
 // The byte at a position, 0 past the memory's end.
 fn look<S: Source>(memory: &S, p: u32) -> u8
-    ensures { result ≡ look (S.Source.bytes memory.now) p }
+    ensures { result ≡ look (S.bytes memory.now) p }
 {
     byte_at(memory, (p / SPAN) as usize)
 }

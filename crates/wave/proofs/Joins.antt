@@ -1,5 +1,5 @@
 -- What reads and writes of a board answer, by those of its parts.
-use Rattle.std.proofs.Common.{◌≡◌, ℕ, ◌+◌, ◌-◌, ◌<◌, ◌≤◌, min, Bool, true, false, cond, ◌&&◌, ltb, leb, List, [], ◌++◌, length, get_or, take, set, Ok, Err, Result, sym, refl, ap, ◌∙◌, ap₂, ⊎_elim, append-nil, arith}
+use Rattle.std.proofs.Common.{◌≡◌, ℕ, ◌+◌, ◌-◌, ◌<◌, ◌≤◌, min, Bool, true, false, cond, ◌&&◌, ltb, leb, List, [], ◌++◌, length, take, set, Ok, Err, Result, sym, refl, ap, ◌∙◌, ap₂, ⊎_elim, append-nil, arith}
 use Rattle.std.proofs.lemmas.List.{length-append, length-take, take_all, length-set, get_or_append_left, get_or-append_right, set-append_left, set-append_right}
 use Rattle.std.proofs.lemmas.Bool.{lt-ltb, le-ltb, le-leb, lt-leb, and_from, and_left, and_right, cond-true, cond-false, cases_lt}
 use Rattle.wave.specs.Outcome.{granted, kept}
@@ -8,7 +8,7 @@ use Rattle.wave.specs.Lent.{used, ram, rom}
 use Rattle.wave.specs.Board.{joined, either, board, second_written}
 use Rattle.wave.specs.declared.memory.Refusal.{Refusal}
 use Rattle.wave.specs.declared.memory.Refusal.TheVariants.{ReadOnly, PastEnd}
-use Rattle.wave.proofs.Writes.{fetch_inside, fetch_past, store_inside, store_at, store_past, written_past}
+use Rattle.wave.proofs.Writes.{fetch_inside, fetch_past, store_inside, store_at, store_past}
 use Rattle.std.specs.Result.{result_map_both}
 use Rattle.wave.proofs.Limits.{used_length, used_at, used-set}
 

@@ -1,5 +1,5 @@
 -- The limit on the places that a memory uses, and what reads and writes answer under it.
-use Rattle.std.proofs.Common.{◌≡◌, ℕ, zero, suc, ◌<◌, min, true, false, List, [], ◌∷◌, length, get_or, take, drop, set, Ok, Err, sym, refl, ap, ◌∙◌}
+use Rattle.std.proofs.Common.{◌≡◌, ℕ, zero, suc, ◌<◌, min, true, false, List, [], ◌∷◌, length, get_or, take, set, Ok, Err, sym, refl, ap, ◌∙◌}
 use Rattle.std.proofs.lemmas.List.{length-take, get_or-take, drop-set-lt}
 use Rattle.wave.specs.Memory.{most, meaning, store}
 use Rattle.wave.specs.Lent.{used, beyond, ram, rom}

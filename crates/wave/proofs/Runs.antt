@@ -1,9 +1,8 @@
 -- Accesses performed one by one on two memories.
-use Rattle.std.proofs.Common.{◌≡◌, ℕ, suc, ◌+◌, ◌<◌, ◌≤◌, Bool, true, false, cond, ◌&&◌, ltb, List, [], ◌∷◌, ◌++◌, length, get_or, take, Decides, sym, refl, ap, ◌∙◌, subst, ap₂, ⊎_elim, arith}
+use Rattle.std.proofs.Common.{◌≡◌, ℕ, suc, ◌≤◌, Bool, true, ◌&&◌, ltb, List, [], ◌∷◌, ◌++◌, length, Decides, sym, refl, ap, ◌∙◌, subst, ap₂, ⊎_elim, arith}
 use mathlib.Core.Path.{fun_ext}
-use Rattle.std.proofs.lemmas.List.{take_more}
 use Rattle.std.proofs.lemmas.Bool.{le-ltb, cases_lt, and_parts, and_from}
-use Rattle.wave.specs.Memory.{Memory, size, meaning, Alike}
+use Rattle.wave.specs.Memory.{Memory, meaning, Alike}
 use Rattle.wave.specs.Access.{answer, after, answers, after_all, Compared}
 use Rattle.wave.specs.declared.access.Access.{Access}
 use Rattle.wave.specs.declared.access.Answer.{Answer}

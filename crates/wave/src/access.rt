@@ -22,8 +22,8 @@ pub enum Answer {
 }
 
 pub fn perform<M: Store>(memory: &mut M, access: Access) -> Answer
-    ensures answer { result ≡ answer (means M.Source M.Store memory.old) access }
-    ensures after { means M.Source M.Store memory.new ≡ after (means M.Source M.Store memory.old) access }
+    ensures answer { result ≡ answer (means M.bytes M.takes memory.old) access }
+    ensures after { means M.bytes M.takes memory.new ≡ after (means M.bytes M.takes memory.old) access }
 {
     match access {
         Access::Read(place) => match memory.read(place) {
@@ -39,10 +39,10 @@ pub fn perform<M: Store>(memory: &mut M, access: Access) -> Answer
 
 // Performs the same accesses on two memories, and says whether all the answers were the same.
 pub fn answer_alike<M: Store, N: Store>(first: &mut M, second: &mut N, accesses: &[Access]) -> bool
-    ensures compared { Compared (means M.Source M.Store first.old) (means N.Source N.Store second.old) accesses.now
-        result (means M.Source M.Store first.new) (means N.Source N.Store second.new) }
-    ensures law { Alike (means M.Source M.Store first.old) (means N.Source N.Store second.old)
-        → (result ≡ true) × (means M.Source M.Store first.new ≡ means N.Source N.Store second.new) }
+    ensures compared { Compared (means M.bytes M.takes first.old) (means N.bytes N.takes second.old) accesses.now
+        result (means M.bytes M.takes first.new) (means N.bytes N.takes second.new) }
+    ensures law { Alike (means M.bytes M.takes first.old) (means N.bytes N.takes second.old)
+        → (result ≡ true) × (means M.bytes M.takes first.new ≡ means N.bytes N.takes second.new) }
 {
     let mut alike = true;
     for access in accesses {
@@ -53,10 +53,10 @@ pub fn answer_alike<M: Store, N: Store>(first: &mut M, second: &mut N, accesses:
 
 fn perform_both<M: Store, N: Store>(first: &mut M, second: &mut N, access: Access) -> bool
     ensures answers { Decides result
-        (answer (means M.Source M.Store first.old) access
-        ≡ answer (means N.Source N.Store second.old) access) }
-    ensures first { means M.Source M.Store first.new ≡ after (means M.Source M.Store first.old) access }
-    ensures second { means N.Source N.Store second.new ≡ after (means N.Source N.Store second.old) access }
+        (answer (means M.bytes M.takes first.old) access
+        ≡ answer (means N.bytes N.takes second.old) access) }
+    ensures first { means M.bytes M.takes first.new ≡ after (means M.bytes M.takes first.old) access }
+    ensures second { means N.bytes N.takes second.new ≡ after (means N.bytes N.takes second.old) access }
 {
     perform(first, access) == perform(second, access)
 }

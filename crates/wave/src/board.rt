@@ -14,7 +14,7 @@ pub struct Board<A, B> {
 }
 
 impl<A: Source, B: Source> Source for Board<A, B> {
-    ghost bytes = { λ s. joined (A.Source.bytes s.first) (B.Source.bytes s.second) };
+    ghost bytes = { λ s. joined (A.bytes s.first) (B.bytes s.second) };
 
     fn size(&self) -> usize {
         joined_size(&self.first, &self.second)
@@ -26,20 +26,20 @@ impl<A: Source, B: Source> Source for Board<A, B> {
 }
 
 impl<A: Store, B: Store> Store for Board<A, B> {
-    ghost takes = { λ s. either (means A.Source A.Store s.first) (means B.Source B.Store s.second) };
+    ghost takes = { λ s. either (means A.bytes A.takes s.first) (means B.bytes B.takes s.second) };
 
     fn write(&mut self, place: usize, byte: u8) -> Result<(), Refusal>
-        ensures answer { result ≡ granted (store (board (means A.Source A.Store self.old.first) (means B.Source B.Store self.old.second)) place byte) }
-        ensures after { board (means A.Source A.Store self.new.first) (means B.Source B.Store self.new.second)
+        ensures answer { result ≡ granted (store (board (means A.bytes A.takes self.old.first) (means B.bytes B.takes self.old.second)) place byte) }
+        ensures after { board (means A.bytes A.takes self.new.first) (means B.bytes B.takes self.new.second)
             ≡ written
-            (board (means A.Source A.Store self.old.first) (means B.Source B.Store self.old.second))
+            (board (means A.bytes A.takes self.old.first) (means B.bytes B.takes self.old.second))
             place byte }
-        ensures first { means A.Source A.Store self.new.first
-            ≡ written (means A.Source A.Store self.old.first) place byte }
-        ensures second { means B.Source B.Store self.new.second
+        ensures first { means A.bytes A.takes self.new.first
+            ≡ written (means A.bytes A.takes self.old.first) place byte }
+        ensures second { means B.bytes B.takes self.new.second
             ≡ second_written
-            (means A.Source A.Store self.old.first)
-            (means B.Source B.Store self.old.second)
+            (means A.bytes A.takes self.old.first)
+            (means B.bytes B.takes self.old.second)
             place byte }
     {
         write_joined(&mut self.first, &mut self.second, place, byte)
@@ -47,14 +47,14 @@ impl<A: Store, B: Store> Store for Board<A, B> {
 }
 
 fn joined_size<A: Source, B: Source>(first: &A, second: &B) -> usize
-    ensures exact { result ≡ length (joined (A.Source.bytes first.now) (B.Source.bytes second.now)) }
+    ensures exact { result ≡ length (joined (A.bytes first.now) (B.bytes second.now)) }
     ensures bound { result ≤ most }
 {
     (first.size() + second.size()).min(MOST)
 }
 
 fn read_joined<A: Source, B: Source>(first: &A, second: &B, place: usize) -> Result<u8, Refusal>
-    ensures { result ≡ fetch (joined (A.Source.bytes first.now) (B.Source.bytes second.now)) place }
+    ensures { result ≡ fetch (joined (A.bytes first.now) (B.bytes second.now)) place }
 {
     let size = first.size();
     if place < size {
@@ -72,17 +72,17 @@ fn write_joined<A: Store, B: Store>(
     place: usize,
     byte: u8,
 ) -> Result<(), Refusal>
-    ensures answer { result ≡ granted (store (board (means A.Source A.Store first.old) (means B.Source B.Store second.old)) place byte) }
-    ensures after { board (means A.Source A.Store first.new) (means B.Source B.Store second.new)
+    ensures answer { result ≡ granted (store (board (means A.bytes A.takes first.old) (means B.bytes B.takes second.old)) place byte) }
+    ensures after { board (means A.bytes A.takes first.new) (means B.bytes B.takes second.new)
         ≡ written
-        (board (means A.Source A.Store first.old) (means B.Source B.Store second.old))
+        (board (means A.bytes A.takes first.old) (means B.bytes B.takes second.old))
         place byte }
-    ensures first { means A.Source A.Store first.new
-        ≡ written (means A.Source A.Store first.old) place byte }
-    ensures second { means B.Source B.Store second.new
+    ensures first { means A.bytes A.takes first.new
+        ≡ written (means A.bytes A.takes first.old) place byte }
+    ensures second { means B.bytes B.takes second.new
         ≡ second_written
-        (means A.Source A.Store first.old)
-        (means B.Source B.Store second.old)
+        (means A.bytes A.takes first.old)
+        (means B.bytes B.takes second.old)
         place byte }
 {
     let size = first.size();

@@ -1,4 +1,6 @@
 // Wave memories: what a sound chip reads its samples from, and writes through its window.
+#![tactic(auto)]
+
 pub mod access;
 pub mod board;
 mod lent;

@@ -44,14 +44,14 @@ pub trait Store: Source {
     ghost takes: { Self → ℕ → Bool };
 
     fn write(&mut self, place: usize, byte: u8) -> Result<(), Refusal>
-        ensures answer { result ≡ granted (store (meaning (Self.Source.bytes self.old) (takes self.old)) place byte) }
-        ensures after { meaning (Self.Source.bytes self.new) (takes self.new)
-            ≡ written (meaning (Self.Source.bytes self.old) (takes self.old)) place byte };
+        ensures answer { result ≡ granted (store (meaning (Self.bytes self.old) (takes self.old)) place byte) }
+        ensures after { meaning (Self.bytes self.new) (takes self.new)
+            ≡ written (meaning (Self.bytes self.old) (takes self.old)) place byte };
 }
 
 // The byte at a place, 0 past the end.
 pub fn byte_at<S: Source>(memory: &S, place: usize) -> u8
-    ensures { result ≡ slice_index (S.Source.bytes memory.now) place }
+    ensures { result ≡ slice_index (S.bytes memory.now) place }
 {
     match memory.read(place) {
         Ok(byte) => byte,

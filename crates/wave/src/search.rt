@@ -8,7 +8,7 @@ pub const STOP: u8 = 0xFF;
 
 // The first place from `from` on that holds the stop byte, or none.
 pub fn first_stop<S: Source>(memory: &S, from: usize) -> Option<usize>
-    ensures { FirstStop (bytes memory.now) from result }
+    ensures { FirstStop (S.bytes memory.now) from result }
 {
     for place in from..memory.size() {
         if byte_at(memory, place) == STOP {

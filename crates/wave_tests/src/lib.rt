@@ -1,4 +1,6 @@
 // Wave memories at the sizes where something changes.
+#![tactic(auto)]
+
 #[cfg(test)]
 mod boards;
 #[cfg(test)]

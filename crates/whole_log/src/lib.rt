@@ -1,4 +1,6 @@
 // Whole logs: recording a list of records, and copying a log.
+#![tactic(auto)]
+
 ghost use Rattle.std.specs.Prelude.{◌≡◌, ℕ, ◌≤◌, List, map, length, None, Ok, Err, Option as Maybe, MatchResult};
 ghost use Rattle.register_log.specs.Contents.{contents};
 ghost use Rattle.register_log.specs.Header.{header as header_of};

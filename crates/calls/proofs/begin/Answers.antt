@@ -8,7 +8,7 @@ pub returns : goal.returns
 returns g c =
     record {
       new =
-          ap₂ {C = State} (λ r m. record { registers = r; memory = means g.M.Source g.M.Store m })
+          ap₂ {C = State} (λ r m. record { registers = r; memory = means g.M.Source.bytes g.M.Store.takes m })
           c.new.ensures.registers c.new.ensures.memory;
-      law = λ calls. law (means g.M.Source g.M.Store c.args.memory) c.args.kind c.args.converter c.args.mutes calls;
+      law = λ calls. law (means g.M.Source.bytes g.M.Store.takes c.args.memory) c.args.kind c.args.converter c.args.mutes calls;
     }

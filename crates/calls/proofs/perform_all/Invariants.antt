@@ -7,7 +7,7 @@ abbrev pub invariant-loop-call : goal.invariant-loop-call
 invariant-loop-call g l =
     Went
     (take l.call-index l.calls)
-    (state g.M.Source g.M.Store l.initial.chip)
+    (state g.M.Source.bytes g.M.Store.takes l.initial.chip)
     l.initial.frame l.initial.buffer
-    (state g.M.Source g.M.Store l.chip)
+    (state g.M.Source.bytes g.M.Store.takes l.chip)
     l.frame l.buffer

@@ -10,7 +10,7 @@ returns-in-Err g c = λ bit place.
     let e = c.in-Err.ensures in
     sym (c.loop-byte.invariant.1 bit place)
     ∙ put_refused c.args.bytes.now c.loop-byte.byte-index c.loop-byte.at bit place
-    (state g.M.Source g.M.Store c.loop-byte.chip) (state g.M.Source g.M.Store c.write.new.self) c.in-Err.refusal
+    (state g.M.Source.bytes g.M.Store.takes c.loop-byte.chip) (state g.M.Source.bytes g.M.Store.takes c.write.new.self) c.in-Err.refusal
     c.loop-byte-test.true (sym e.answer) e.after
 
 pub loop-byte-preserved : goal.loop-byte-preserved
@@ -20,7 +20,7 @@ loop-byte-preserved g c =
       λ bit place.
           sym
           (put_granted c.args.bytes.now c.loop-byte.byte-index c.loop-byte.at bit place
-          (state g.M.Source g.M.Store c.loop-byte.chip) (state g.M.Source g.M.Store c.write.new.self)
+          (state g.M.Source.bytes g.M.Store.takes c.loop-byte.chip) (state g.M.Source.bytes g.M.Store.takes c.write.new.self)
           c.loop-byte-test.true (sym e.answer) e.after)
           ∙ c.loop-byte.invariant.1 bit place,
     )
@@ -28,6 +28,6 @@ loop-byte-preserved g c =
 pub returns : goal.returns
 returns g c = λ bit place.
     let i = c.loop-byte.byte-index in
-    let s = state g.M.Source g.M.Store c.loop-byte.chip in
+    let s = state g.M.Source.bytes g.M.Store.takes c.loop-byte.chip in
     let none : drop i c.args.bytes.now ≡ [] = drop_all i c.args.bytes.now c.loop-byte-test.false in
     sym (c.loop-byte.invariant.1 bit place) ∙ ap (λ x. put x c.loop-byte.at bit place s) none ∙ put_none c.loop-byte.at bit place s

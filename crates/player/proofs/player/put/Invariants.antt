@@ -8,5 +8,5 @@ abbrev pub invariant-loop-byte : goal.invariant-loop-byte
 invariant-loop-byte g l =
     (l.at ≡ l.address + l.byte-index)
     × ((bit place : ℕ) →
-    put (drop l.byte-index l.bytes) l.at bit place (state g.M.Source g.M.Store l.chip)
-    ≡ put l.bytes l.address bit place (state g.M.Source g.M.Store l.initial.chip))
+    put (drop l.byte-index l.bytes) l.at bit place (state g.M.Source.bytes g.M.Store.takes l.chip)
+    ≡ put l.bytes l.address bit place (state g.M.Source.bytes g.M.Store.takes l.initial.chip))

@@ -5,7 +5,7 @@ use Rattle.wave.proofs.access.answer_alike.Goals as goal
 
 pub loop-access-preserved : goal.loop-access-preserved
 loop-access-preserved g c =
-    let p = c.perform-both-alike.ensures in
+    let p = c.perform_both-alike.ensures in
     rw (take_more c.args.accesses.now c.loop-access.access-index (Read 0) c.loop-access-test.true)
     (compared_more _ _ _ _ _ _ _ _ _ _ c.loop-access.invariant p.answers p.first p.second)
 

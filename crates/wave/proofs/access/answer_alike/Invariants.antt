@@ -6,9 +6,9 @@ use Rattle.wave.proofs.access.answer_alike.Given as goal
 abbrev pub invariant-loop-access : goal.invariant-loop-access
 invariant-loop-access g l =
     Compared
-    (means g.M.Source g.M.Store l.initial.first)
-    (means g.N.Source g.N.Store l.initial.second)
+    (means g.M.Source.bytes g.M.Store.takes l.initial.first)
+    (means g.N.Source.bytes g.N.Store.takes l.initial.second)
     (take l.access-index l.accesses)
     l.alike
-    (means g.M.Source g.M.Store l.first)
-    (means g.N.Source g.N.Store l.second)
+    (means g.M.Source.bytes g.M.Store.takes l.first)
+    (means g.N.Source.bytes g.N.Store.takes l.second)

@@ -9,8 +9,8 @@ use Rattle.wave.proofs.board.write_joined.Goals as goal
 
 pub returns-then-place-size : goal.returns-then-place-size
 returns-then-place-size g c =
-    let m : Memory = means g.A.Source g.A.Store c.args.first.now in
-    let n : Memory = means g.B.Source g.B.Store c.args.second.now in
+    let m : Memory = means g.A.Source.bytes g.A.Store.takes c.args.first.now in
+    let n : Memory = means g.B.Source.bytes g.B.Store.takes c.args.second.now in
     let short : size m ≤ most = omega arith in
     let here : c.args.place < size m = omega arith in
     record {
@@ -22,8 +22,8 @@ returns-then-place-size g c =
 
 pub returns-then-place-lt-MOST : goal.returns-then-place-lt-MOST
 returns-then-place-lt-MOST g c =
-    let m : Memory = means g.A.Source g.A.Store c.args.first.now in
-    let n : Memory = means g.B.Source g.B.Store c.args.second.now in
+    let m : Memory = means g.A.Source.bytes g.A.Store.takes c.args.first.now in
+    let n : Memory = means g.B.Source.bytes g.B.Store.takes c.args.second.now in
     let there : size m ≤ c.args.place = omega arith in
     let near : c.args.place < most = omega arith in
     let left = c.size-size.ensures.exact in
@@ -40,8 +40,8 @@ returns-then-place-lt-MOST g c =
 
 pub returns-else-place-lt-MOST : goal.returns-else-place-lt-MOST
 returns-else-place-lt-MOST g c =
-    let m : Memory = means g.A.Source g.A.Store c.args.first.now in
-    let n : Memory = means g.B.Source g.B.Store c.args.second.now in
+    let m : Memory = means g.A.Source.bytes g.A.Store.takes c.args.first.now in
+    let n : Memory = means g.B.Source.bytes g.B.Store.takes c.args.second.now in
     let there : size m ≤ c.args.place = omega arith in
     let far : most ≤ c.args.place = omega arith in
     record {

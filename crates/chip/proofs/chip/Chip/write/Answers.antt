@@ -7,7 +7,7 @@ use Rattle.chip.proofs.chip.Chip.write.Goals as goal
 
 pub returns-in-err-check-port : goal.returns-in-err-check-port
 returns-in-err-check-port g c =
-    let s : State = state g.M.Source g.M.Store c.args.self.now in
+    let s : State = state g.M.Source.bytes g.M.Store.takes c.args.self.now in
     let e = c.in-err-check-port.field-0.0 in
     let refused = write_refused s c.args.address c.args.byte e c.in-err-check-port.ensures in
     let answer : c.from-residual.result ≡ Err e = search rules in
