@@ -1,5 +1,5 @@
 -- Bits of a byte.
-use Rattle.std.proofs.Common.{◌≡◌, ℕ, ◌/◌, ◌%◌, ◌^◌, ◌<◌, ◌≤◌, false, eqb, ap, arith, pow_mono}
+use Rattle.std.proofs.Common.{◌≡◌, ℕ, ◌%◌, ◌^◌, ◌<◌, ◌≤◌, false, eqb, ap, arith, pow_mono}
 use native.Mathlib.Nat.{div-eq_of_lt}
 use Rattle.chip.specs.Control.{bit}
 

@@ -1,5 +1,5 @@
 -- The calls of a chip: what each answers, and what it leaves. An outcome that is a refusal leaves everything.
-use Rattle.std.specs.Prelude.{ℕ, zero, suc, ◌+◌, ◌-◌, Bool, true, false, cond, ◌&&◌, List, [], ◌∷◌, length, Ok, Err, Result, ◌==◌, nat_le, nat_lt, slice_index}
+use Rattle.std.specs.Prelude.{ℕ, zero, suc, ◌+◌, ◌-◌, Bool, false, cond, ◌&&◌, List, [], ◌∷◌, length, Ok, Err, Result, ◌==◌, nat_le, nat_lt, slice_index}
 use Rattle.wave.specs.Memory.{Memory, fetch, store}
 use Rattle.wave.specs.declared.memory.Refusal.{Refusal as MemoryRefusal}
 use Rattle.voice.specs.Frame.{frame as frame-of}

@@ -1,4 +1,4 @@
-use Rattle.std.proofs.Common.{◌≡◌, get_or, set, sym, ap, ◌∙◌, arith}
+use Rattle.std.proofs.Common.{get_or, set, ap, ◌∙◌, arith}
 use Rattle.voice.specs.Voice.{fresh}
 use Rattle.voice.specs.declared.voice.Voice.{Voice}
 use Rattle.chip.specs.Registers.{edited, chosen}
@@ -11,7 +11,7 @@ returns-then-k-lt8 c =
     let k = c.from-k.result in
     let v : Voice = get_or voices k fresh in
     let rule : Voice → Voice = edited c.args.address c.args.byte in
-    ap (λ s. set voices k (record { settings = s; phase = v.phase; latest = v.latest })) c.write-settings.ensures
+    ap (λ s. set voices k (record { settings = s; phase = v.phase; latest = v.latest })) c.write_settings.ensures
     ∙ one_set rule k voices
     ∙ ap (λ n. chosen n rule voices) c.from-k.ensures
 
