@@ -1,19 +1,17 @@
 -- What calls keep of a chip's registers.
-use Rattle.std.proofs.Common.{◌≡◌, ℕ, zero, suc, ◌+◌, ◌-◌, ◌/◌, ◌%◌, ◌^◌, ◌<◌, Bool, true, false, cond, not, ◌&&◌, ◌||◌, eqb, ltb, leb, List, [], ◌∷◌, ◌++◌, length, get_or, Ok, Err, Result, sym, refl, ap, ◌∙◌, subst, add-zero, mod-lt, arith, lit<}
+use Rattle.std.proofs.Common.{◌≡◌, ℕ, zero, suc, ◌+◌, ◌-◌, ◌/◌, ◌%◌, ◌^◌, ◌<◌, Bool, true, false, cond, eqb, ltb, leb, length, get_or, Ok, Err, Result, refl, ap, ◌∙◌, mod-lt, arith, lit<}
 use lib.Bits.{bit_or, or_shr, or_mod}
 use Rattle.wave.specs.Memory.{Memory, store}
 use Rattle.wave.specs.Outcome.{kept}
 use Rattle.wave.specs.declared.memory.Refusal.{Refusal as MemoryRefusal}
-use Rattle.voice.specs.Voice.{fresh, tick}
+use Rattle.voice.specs.Voice.{fresh}
 use Rattle.voice.specs.declared.voice.Phase.{Phase}
-use Rattle.voice.specs.declared.voice.Phase.TheVariants.{Rest}
 use Rattle.voice.specs.declared.voice.Voice.{Voice}
 use Rattle.chip.specs.Control.{bit, controlled, place_behind}
-use Rattle.chip.specs.Registers.{each, chosen, edited, registered, sounds, ticked, with_voices, with_control, with_channel}
-use Rattle.chip.specs.Port.{State, memory_size, window_start, last_address, last_register, with_registers, with_memory, in_memory, write}
+use Rattle.chip.specs.Registers.{chosen, edited, registered, with_voices, with_control, with_channel}
+use Rattle.chip.specs.Port.{State, memory_size, window_start, last_address, last_register, with_memory, in_memory, write}
 use Rattle.chip.proofs.Each.{each_length, each_at}
 use Rattle.chip.specs.declared.refusal.Refusal.{Refusal}
-use Rattle.chip.specs.declared.refusal.Refusal.TheVariants.{MemorySize, BeyondPort, NothingThere}
 use Rattle.chip.specs.declared.registers.Registers.{Registers}
 
 both : {A : Type 0} (P : A → Type 0) (t : Bool) {x y : A} → P x → P y → P (cond t x y)

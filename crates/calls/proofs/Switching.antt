@@ -1,19 +1,18 @@
 -- The law about switching voices off and on.
-use Rattle.std.proofs.Common.{◌≡◌, ℕ, ◌+◌, ◌%◌, ◌<◌, Bool, true, false, cond, not, ◌&&◌, eqb, List, [], ◌∷◌, ◌++◌, length, get_or, replicate, Ok, Err, Result, sym, refl, ap, ◌∙◌, subst, arith}
+use Rattle.std.proofs.Common.{◌≡◌, ℕ, ◌+◌, ◌%◌, ◌<◌, Bool, true, false, not, List, [], ◌∷◌, length, get_or, replicate, Ok, Err, Result, sym, refl, ap, ◌∙◌, subst, arith}
 use Rattle.std.proofs.lemmas.List.{get_or-replicate}
 use Rattle.std.proofs.lemmas.Bool.{cond-true, cond-false, and_right}
 use Rattle.wave.specs.Memory.{Memory}
 use Rattle.wave.specs.Outcome.{kept}
-use Rattle.voice.specs.Voice.{fresh, silence, positions, step, start, position, onward, landing, landed, sounded, silent, tick}
+use Rattle.voice.specs.Voice.{fresh, positions, step, position, onward, landing, landed, sounded, silent, tick}
 use Rattle.voice.specs.declared.frame.Converter.{Converter}
 use Rattle.voice.specs.declared.voice.Phase.{Phase}
 use Rattle.voice.specs.declared.voice.Phase.TheVariants.{Rest, At}
-use Rattle.voice.specs.declared.voice.Settings.{Settings}
 use Rattle.voice.specs.declared.voice.Voice.{Voice}
 use Rattle.kind.specs.declared.Kind.{Kind}
 use Rattle.chip.specs.Control.{bit}
-use Rattle.chip.specs.Registers.{made, each, sounds, ticked, with_voices}
-use Rattle.chip.specs.Port.{State, memory_size, with_registers}
+use Rattle.chip.specs.Registers.{sounds, ticked}
+use Rattle.chip.specs.Port.{State, with_registers}
 use Rattle.chip.specs.declared.refusal.Refusal.{Refusal}
 use Rattle.chip.specs.declared.refusal.Refusal.TheVariants.{MemorySize}
 use Rattle.chip.specs.declared.registers.Registers.{Registers}

@@ -11,10 +11,10 @@ returns c =
     let place = c.args.place in
     let fs = map octet bytes in
     let s = span_octets bytes in
-    let n = number_octets bytes (λ i. (c.type-inv.bytes i).fits) in
+    let n = number_octets bytes (λ i. (c.type_inv.bytes i).fits) in
     let none : gap (place + span fs) ≡ 0 = omega (arith, c.requires.0) in
     let start : place ≡ 8 * (place / 8) = omega (arith, c.requires.0) in
     let e : (field buffer 0 place * 2 ^ span fs + number fs) * 2 ^ gap (place + span fs) ≡ field buffer 0 (8 * (place / 8)) * 2 ^ (8 * length bytes) + number fs =
     ap (λ x. (field buffer 0 place * 2 ^ span fs + number fs) * 2 ^ x) none ∙ mul-one _ ∙ ap (λ x. field buffer 0 place * 2 ^ x + number fs) s ∙ ap (λ q. field buffer 0 q * 2 ^ (8 * length bytes) + number fs) start in
-    pasted buffer c.copy-from-slice.new.self place (place / 8) (length bytes) _ (number fs) fs
-    (λ i. (c.type-inv.buffer i).fits) (omega arith) (omega arith) (omega arith) (c.copy-from-slice.ensures.after ∙ n.1) n.0 e
+    pasted buffer c.copy_from_slice.new.self place (place / 8) (length bytes) _ (number fs) fs
+    (λ i. (c.type_inv.buffer i).fits) (omega arith) (omega arith) (omega arith) (c.copy_from_slice.ensures.after ∙ n.1) n.0 e

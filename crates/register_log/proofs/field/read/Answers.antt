@@ -18,7 +18,7 @@ loop-byte-preserved c =
     let within : k < n = omega (arith, length-take n (drop first bytes)) in
     let byte : c.from.result ≡ get_or bytes (first + k) 0 = c.from.ensures ∙ get_or-take n (drop first bytes) k 0 within ∙ get_or-drop first bytes k 0 in
     read_more bytes first k c.loop-byte.bits c.from.result c.loop-byte.invariant (omega arith) byte
-    (subst (λ x. x < 256) (sym byte) (c.type-inv.bytes (first + k)).fits)
+    (subst (λ x. x < 256) (sym byte) (c.type_inv.bytes (first + k)).fits)
 
 pub returns : goal.returns
 returns c =

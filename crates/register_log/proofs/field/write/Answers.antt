@@ -4,8 +4,8 @@ use Rattle.register_log.specs.Fields.{written}
 use Rattle.register_log.proofs.Packing.{writable_at, span_more, span-take, written_next}
 use Rattle.register_log.proofs.field.write.Goals as goal
 
-pub write-one-requires : goal.write-one-requires
-write-one-requires c =
+pub write_one-requires : goal.write_one-requires
+write_one-requires c =
     let fields = c.args.fields.now in
     let i = c.loop-width.width-index in
     let f = writable_at i fields c.requires.1.0 c.loop-width-test.true in
@@ -15,8 +15,8 @@ write-one-requires c =
     let at = c.loop-width.invariant.0 in
     (f.0, (f.1, (f.2, (omega arith, omega arith))))
 
-pub overflow-add-at : goal.overflow-add-at
-overflow-add-at c =
+pub overflow_add-at : goal.overflow_add-at
+overflow_add-at c =
     let fields = c.args.fields.now in
     let i = c.loop-width.width-index in
     let f = writable_at i fields c.requires.1.0 c.loop-width-test.true in
@@ -35,8 +35,8 @@ loop-width-preserved c =
       omega arith,
       λ z. absurd (omega arith),
       λ l.
-          written_next c.args.buffer.now c.loop-width.buffer c.write-one.new.buffer c.args.place i c.loop-width.at fields (get_or fields i (0, 0))
-          c.loop-width-test.true refl c.requires.1.0 at inv.1 inv.2 c.write-one.ensures,
+          written_next c.args.buffer.now c.loop-width.buffer c.write_one.new.buffer c.args.place i c.loop-width.at fields (get_or fields i (0, 0))
+          c.loop-width-test.true refl c.requires.1.0 at inv.1 inv.2 c.write_one.ensures,
     )
 
 pub returns : goal.returns

@@ -22,10 +22,10 @@ returns c =
     let small : value < 2 ^ width = search rules in
     let below : field buffer (8 * first) kept < 2 ^ kept = subst (λ x. x < 2 ^ kept) (sym front.1) front.0 in
     let n : ℕ = field buffer (8 * first) kept * 2 ^ width + value in
-    let word = c.to-be-bytes-bytes.result in
+    let word = c.to_be_bytes-bytes.result in
     let front_bits : (bits : ℕ) → bits ≡ bit_or (c.from.result / 2 ^ (8 - kept) * 2 ^ width % 2 ^ 32) value * 2 ^ s % 2 ^ 32 → bits ≡ n * 2 ^ s =
     λ bits e. e ∙ ap (λ x. bit_or (x * 2 ^ width % 2 ^ 32) value * 2 ^ s % 2 ^ 32) high ∙ write_bits (field buffer (8 * first) kept) kept width value s below small (omega arith) in
-    let bytes : word ≡ big_endian 4 (n * 2 ^ s) = c.to-be-bytes-bytes.ensures ∙ four_bytes _ ∙ ap (big_endian 4) (front_bits _ refl) in
+    let bytes : word ≡ big_endian 4 (n * 2 ^ s) = c.to_be_bytes-bytes.ensures ∙ four_bytes _ ∙ ap (big_endian 4) (front_bits _ refl) in
     let new : take count word ≡ big_endian count (n * 2 ^ g) = first_bytes count n s g word (omega arith) (omega arith) bytes in
     let low : n * 2 ^ g < 2 ^ (8 * count) =
     subst (λ x. n * 2 ^ g < 2 ^ x) (omega arith)
@@ -40,6 +40,6 @@ returns c =
     ∙ ap (λ x. (field buffer 0 place * 2 ^ width + value) * 2 ^ x) gap_is
     ∙ ap (λ q. (field buffer 0 q * 2 ^ width + value) * 2 ^ g) (sym start)
     ∙ front_number buffer first kept width value g count (omega arith) in
-    let after : c.copy-from-slice.new.self ≡ take count word = search rules in
-    pasted buffer c.copy-from-slice.new.self place first count _ (n * 2 ^ g) ((width, value) ∷ [])
-    (λ i. (c.type-inv.buffer i).fits) (omega arith) (omega arith) (omega arith) (after ∙ new) low e
+    let after : c.copy_from_slice.new.self ≡ take count word = search rules in
+    pasted buffer c.copy_from_slice.new.self place first count _ (n * 2 ^ g) ((width, value) ∷ [])
+    (λ i. (c.type_inv.buffer i).fits) (omega arith) (omega arith) (omega arith) (after ∙ new) low e

@@ -5,5 +5,5 @@ use Rattle.register_log.proofs.record.block_fits.Goals as goal
 
 pub returns-then-bytes-le-WINDOW : goal.returns-then-bytes-le-WINDOW
 returns-then-bytes-le-WINDOW c =
-    let fit = bytes_fit_all c.args.bytes.now (λ k. (c.type-inv.bytes k).fits) in
+    let fit = bytes_fit_all c.args.bytes.now (λ k. (c.type_inv.bytes k).fits) in
     rw (fit, c.from.ensures) (grind (arith, nat_tests))

@@ -14,11 +14,11 @@ returns c =
     let end = c.requires.1.0 in
     let room = c.requires.1.1 in
     let short = leb-true size most (and_parts (leb size (length buffer)) (leb size most) room).1 in
-    let written = c.write-record.ensures in
+    let written = c.write_record.ensures in
     record {
       place = refl;
       buffer = written;
       whole = λ h entries.
-          whole_added c.args.self.now.place c.args.end buffer c.write-record.new.buffer (values c.args.record.now) h entries
+          whole_added c.args.self.now.place c.args.end buffer c.write_record.new.buffer (values c.args.record.now) h entries
           fits (subst (λ q. log_length q ≤ most) end short) end written;
     }
