@@ -1,20 +1,17 @@
 -- What stands in a log by its fields is read, and what is read stands there by its fields.
-use Rattle.std.proofs.Common.{◌≡◌, ℕ, zero, suc, ◌+◌, ◌-◌, ◌*◌, ◌/◌, ◌%◌, ◌^◌, ◌<◌, ◌≤◌, Bool, true, false, cond, ◌&&◌, eqb, leb, List, [], ◌∷◌, ◌++◌, map, length, get_or, take, drop, Ok, Err, Result, sym, refl, ap, ◌∙◌, subst, add-zero, add_assoc, zero-add, arith}
-use Rattle.std.proofs.lemmas.List.{drop_more, length-take, length-drop, get_or-take, get_or-drop}
-use Rattle.std.proofs.lemmas.Bool.{and_from, and_parts, le-leb, leb-true, eq-eqb, ne_eqb, eqb-true, eqb-false, cond-true, cond-false, cond_both}
-use Rattle.std.proofs.lemmas.Bool.Decides.{nat_tests}
+use Rattle.std.proofs.Common.{◌≡◌, ℕ, zero, suc, ◌+◌, ◌-◌, ◌*◌, ◌^◌, ◌<◌, ◌≤◌, true, eqb, leb, List, [], ◌∷◌, ◌++◌, map, length, get_or, take, drop, Ok, Err, Result, sym, refl, ap, ◌∙◌, subst, add-zero, add_assoc, arith}
+use Rattle.std.proofs.lemmas.List.{drop_more, length-take, length-drop}
+use Rattle.std.proofs.lemmas.Bool.{and_from, and_parts, le-leb, leb-true, eq-eqb, eqb-true, cond-true, cond_both}
 use Rattle.register_log.specs.Fields.{Field, field, gap, bytes_for, span, number}
 use Rattle.register_log.specs.Header.{length_fits}
 use Rattle.register_log.specs.Reading.{Found, end, found, decode, tagged, whole, padded, ends, end_at, register_at, window_at, wait_at, payload_at, block_at}
-use Rattle.register_log.specs.Record as tag
-use Rattle.register_log.specs.Record.{Entry, register, window, wait, block, fits, fields, block_head, octet, block_fits, address_fits, ticks_fit, bytes_fit}
+use Rattle.register_log.specs.Record.{Entry, register, window, wait, block, fits, fields, octet, block_fits, address_fits, ticks_fit, bytes_fit}
 use Rattle.register_log.specs.Recording.{after}
 use Rattle.register_log.specs.declared.fault.Fault.{Fault}
-use Rattle.register_log.specs.declared.fault.Fault.TheVariants.{Length, Cut, Tag, Range, Padding}
+use Rattle.register_log.specs.declared.fault.Fault.TheVariants.{Length, Cut, Range, Padding}
 use Rattle.register_log.proofs.Fields.{field-zero, field-add, field_split, field_byte, field_below}
-use Rattle.register_log.proofs.Packing.{Fit, number_below, span-append}
-use Rattle.register_log.proofs.Records.{block_bounds, block_span, bytes_fit_all, fit_fields}
-use Rattle.register_log.proofs.Writing.{span_octets}
+use Rattle.register_log.proofs.Packing.{Fit, number_below}
+use Rattle.register_log.proofs.Records.{block_bounds, block_span}
 
 -- the fields stand one after another from a place on
 abbrev pub Stand : List ℕ → ℕ → List Field → Type 0

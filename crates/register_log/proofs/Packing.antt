@@ -1,5 +1,5 @@
 -- Laws of fields in a row: their number, and the bytes that they are packed into.
-use Rattle.std.proofs.Common.{◌≡◌, ℕ, zero, suc, ◌+◌, ◌-◌, ◌*◌, ◌/◌, ◌%◌, ◌^◌, ◌<◌, ◌≤◌, List, [], ◌∷◌, ◌++◌, map, length, get_or, take, drop, sym, refl, ap, ◌∙◌, subst, ⊎_elim, append-nil, add-zero, add_assoc, mod-eq_of_lt, mul_assoc, add-mul, zero-add, mul-one, arith, lit<}
+use Rattle.std.proofs.Common.{◌≡◌, ℕ, zero, suc, ◌+◌, ◌*◌, ◌/◌, ◌%◌, ◌^◌, ◌<◌, ◌≤◌, List, [], ◌∷◌, ◌++◌, length, get_or, take, drop, sym, refl, ap, ◌∙◌, subst, ⊎_elim, append-nil, add-zero, add_assoc, mod-eq_of_lt, mul_assoc, add-mul, zero-add, mul-one, arith, lit<}
 use Rattle.std.proofs.lemmas.Nat.{mod_below, mod-pow-add, shr-shr, shr_high, mod_low, pow_pos, pow-add, shl_below, mul-add-lt, field_of}
 use Rattle.std.proofs.lemmas.List.{take_more, take-append-drop}
 use Rattle.std.proofs.lemmas.Slice.{drop-append-drop}

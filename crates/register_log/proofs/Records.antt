@@ -1,9 +1,9 @@
 -- Laws of records and their fields.
-use Rattle.std.proofs.Common.{◌≡◌, ℕ, suc, ◌+◌, ◌-◌, ◌*◌, ◌^◌, ◌<◌, ◌≤◌, Bool, true, List, [], ◌∷◌, ◌++◌, map, length, get_or, sym, refl, ap, ◌∙◌, subst, arith}
+use Rattle.std.proofs.Common.{◌≡◌, ℕ, suc, ◌+◌, ◌-◌, ◌*◌, ◌<◌, ◌≤◌, true, List, [], ◌∷◌, ◌++◌, map, length, get_or, sym, refl, ap, ◌∙◌, arith}
 use Rattle.std.proofs.lemmas.Nat.{pow_pos}
 use Rattle.std.proofs.lemmas.Bool.{and_from, and_parts, le-leb, leb-true}
 use Rattle.std.proofs.lemmas.Bool.Decides.{nat_tests}
-use Rattle.register_log.specs.Fields.{Field, field, gap, span, written}
+use Rattle.register_log.specs.Fields.{gap, span, written}
 use Rattle.register_log.specs.Record.{Entry, register, window, wait, block, fits, block_fits, byte_fits, bytes_fit, fields, block_head, octet, block_tag}
 use Rattle.register_log.specs.Recording.{end_fields}
 use Rattle.register_log.proofs.Packing.{Fit, fit_append, span-append, written_more, written_padded}

@@ -1,8 +1,8 @@
 -- Laws of whole logs: the log of a header and records reads back as them, and an accepted log is the log of what it holds.
-use Rattle.std.proofs.Common.{◌≡◌, ℕ, zero, suc, ◌+◌, ◌-◌, ◌*◌, ◌/◌, ◌%◌, ◌^◌, ◌<◌, ◌≤◌, Bool, true, false, cond, ◌&&◌, eqb, leb, List, [], ◌∷◌, ◌++◌, length, get_or, take, drop, Some, None, Ok, Err, Result, sym, refl, ap, ◌∙◌, subst, ⊎_elim, append_assoc, append-nil, add-zero, add_assoc, zero-add, mul-one, arith, lit<, lit≤}
+use Rattle.std.proofs.Common.{◌≡◌, ℕ, zero, suc, ◌+◌, ◌*◌, ◌/◌, ◌^◌, ◌<◌, ◌≤◌, true, cond, eqb, leb, List, [], ◌∷◌, ◌++◌, length, get_or, take, drop, None, Ok, Err, Result, sym, refl, ap, ◌∙◌, subst, ⊎_elim, append_assoc, append-nil, add-zero, zero-add, arith, lit<, lit≤}
 use Rattle.std.proofs.lemmas.Nat.{mod_below}
 use Rattle.std.proofs.lemmas.List.{take_all, take_at, take-append-drop}
-use Rattle.std.proofs.lemmas.Bool.{and_from, and_parts, le-leb, leb-true, eq-eqb, ne_eqb, eqb-true, eqb-false, cond-true, cond-false, cond_both, cases_Bool, cases_eq}
+use Rattle.std.proofs.lemmas.Bool.{and_from, and_parts, le-leb, leb-true, eq-eqb, ne_eqb, cond-true, cond_both, cases_eq}
 use Rattle.std.proofs.lemmas.Bool.Decides.{nat_tests}
 use Rattle.kind.specs.Clocks.{clock_fits}
 use Rattle.kind.specs.declared.Kind.{Kind}
@@ -11,12 +11,11 @@ use Rattle.register_log.specs.Fields.{Field, field, gap, bytes_for, span, number
 use Rattle.register_log.specs.Header.{header, length_fits, fields_of, kind_of, fields_fit, accepted, header_fits, header_fields, kind_number, records_start, most}
 use Rattle.register_log.specs.Reading.{Found, end, found, decode}
 use Rattle.register_log.specs.Record.{Entry, fits, fields}
-use Rattle.register_log.specs.Recording.{State, state, added, after, end_fields, log_length, roomy}
-use Rattle.register_log.specs.Contents.{Contents, AllFit, one_more, onward, reading, contents, all_fields, log_of, end_of, Reads, Whole}
+use Rattle.register_log.specs.Recording.{state, after, end_fields, log_length}
+use Rattle.register_log.specs.Contents.{Contents, AllFit, one_more, onward, reading, all_fields, log_of, end_of, Reads, Whole}
 use Rattle.register_log.specs.declared.fault.Fault.{Fault}
 use Rattle.register_log.specs.declared.fault.Fault.TheVariants.{Length, Header as WrongField}
 use Rattle.register_log.specs.declared.header.Header.{Header}
-use Rattle.register_log.specs.declared.header.Fields.{Fields}
 use Rattle.register_log.proofs.Fields.{field-zero, field-add, field_below}
 use Rattle.register_log.proofs.Packing.{Fit, fit_append, span-append, length-packed, packed_front, packed_same, bytes-big_endian, written_over}
 use Rattle.register_log.proofs.Records.{fit_fields}

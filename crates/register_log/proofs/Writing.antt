@@ -1,8 +1,8 @@
 -- What the code of the fields does.
-use Rattle.std.proofs.Common.{◌≡◌, ℕ, zero, suc, ◌+◌, ◌-◌, ◌*◌, ◌/◌, ◌%◌, ◌^◌, ◌<◌, ◌≤◌, List, [], ◌∷◌, ◌++◌, map, length, get_or, take, drop, sym, refl, ap, ◌∙◌, subst, append_assoc, add-zero, mod-eq_of_lt, mul_assoc, add-mul, mul-one, arith, lit<, pow_mono}
+use Rattle.std.proofs.Common.{◌≡◌, ℕ, suc, ◌+◌, ◌-◌, ◌*◌, ◌/◌, ◌%◌, ◌^◌, ◌<◌, ◌≤◌, List, [], ◌∷◌, ◌++◌, map, length, get_or, take, drop, sym, refl, ap, ◌∙◌, subst, append_assoc, add-zero, mod-eq_of_lt, mul_assoc, add-mul, arith, lit<}
 use borrow.Rule.Slice.PartMut.{put_mid}
 use lib.Bits.{bit_and, bit_or}
-use Rattle.std.proofs.lemmas.Nat.{pow_pos, pow-add, shr_high, shr_below, mod_low, shl-shr, shl_whole, one_shl, or_shifted, and_mask, mul-add-lt, shl_below}
+use Rattle.std.proofs.lemmas.Nat.{pow-add, shr_high, shr_below, mod_low, shl-shr, shl_whole, or_shifted, and_mask, mul-add-lt}
 use Rattle.std.proofs.lemmas.List.{drop-drop, take_at, get_or_append_left, get_or-take, length-take-le}
 use Rattle.register_log.specs.Fields.{field, bytes_for, gap, Field, span, number, big_endian, packed, written}
 use Rattle.register_log.specs.Record.{octet}

@@ -1,6 +1,5 @@
 -- What a recording does with the buffer that it is lent.
 use Rattle.std.specs.Prelude.{ℕ, ◌+◌, Bool, cond, ◌&&◌, List, [], ◌∷◌, ◌++◌, length, Ok, Err, Result, nat_le}
-use Rattle.kind.specs.Clocks.{clock_fits}
 use Rattle.register_log.specs.Fault.{number as fault-number}
 use Rattle.register_log.specs.Fields.{Field, span, bytes_for, written}
 use Rattle.register_log.specs.Header.{most, records_start, header_fits, header_fields}

@@ -36,7 +36,7 @@ impl<'a> Reader<'a> {
         ensures place { self.new.place
             ≡ place_after self.old.place (decode self.old.log.now self.old.place) }
         ensures log { self.new.log.now ≡ self.old.log.now }
-        ensures* window { λ r. ⌜ WhenFound (λ r. in_window (values r) ≡ true) r ⌝ }
+        ensures window { WhenFound (λ r. in_window (values r) ≡ true) result }
     {
         match record_at(self.log, self.place)? {
             Some((record, next)) => {

@@ -1,7 +1,7 @@
 use Rattle.std.proofs.Common.{◌≡◌, ℕ, ◌-◌, ◌≤◌, List, [], ◌∷◌, length, get_or, take, drop, Ok, sym, ap, ◌∙◌, subst, arith, rules}
 use Rattle.std.proofs.lemmas.List.{take_rest}
 use Rattle.std.proofs.lemmas.Bool.{cond-true, le-leb}
-use Rattle.job.specs.Job.{Work, work, most}
+use Rattle.job.specs.Job.{work, most}
 use Rattle.job.proofs.Job.read.Goals as goal
 
 -- the log as the pattern takes it from the input

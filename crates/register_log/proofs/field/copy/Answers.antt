@@ -1,5 +1,5 @@
-use Rattle.std.proofs.Common.{◌≡◌, ℕ, ◌+◌, ◌-◌, ◌*◌, ◌/◌, ◌%◌, ◌^◌, ◌<◌, ◌≤◌, ◌∷◌, map, length, sym, ap, ◌∙◌, subst, mul-one, arith}
-use Rattle.register_log.specs.Fields.{field, number, gap, span, Field}
+use Rattle.std.proofs.Common.{◌≡◌, ◌+◌, ◌*◌, ◌/◌, ◌^◌, map, length, ap, ◌∙◌, mul-one, arith}
+use Rattle.register_log.specs.Fields.{field, number, gap, span}
 use Rattle.register_log.specs.Record.{octet}
 use Rattle.register_log.proofs.Writing.{pasted, span_octets, number_octets}
 use Rattle.register_log.proofs.field.copy.Goals as goal
