@@ -1,20 +1,20 @@
 -- The laws about whole logs.
-use Rattle.std.proofs.Common.{◌≡◌, ℕ, zero, suc, ◌+◌, ◌-◌, ◌*◌, ◌<◌, ◌≤◌, Bool, true, false, ◌&&◌, leb, ◌⊎◌, List, [], ◌∷◌, ◌++◌, length, get_or, take, drop, Some, None, Ok, Err, Option, Result, sym, refl, ap, ◌∙◌, subst, inl, inr, ⊎_elim, append_assoc, append-nil, arith}
+use Rattle.std.proofs.Common.{◌≡◌, ℕ, ◌+◌, ◌-◌, ◌<◌, ◌≤◌, Bool, true, false, leb, ◌⊎◌, List, [], ◌∷◌, ◌++◌, length, get_or, drop, Some, None, Ok, Err, Option, Result, sym, refl, ap, ◌∙◌, subst, inl, inr, ⊎_elim, append_assoc, append-nil, arith}
 use Rattle.std.proofs.lemmas.List.{take-append-drop, drop-drop, drop_at, length-append, length-drop}
 use Rattle.std.proofs.lemmas.Bool.{and_from, and_parts, le-leb, leb-true, cond_both}
-use Rattle.register_log.specs.Contents.{Contents, contents, all_fields, log_of, end_of, AllFit, Reads, Whole}
+use Rattle.register_log.specs.Contents.{Contents, contents, log_of, end_of, AllFit, Reads, Whole}
 use Rattle.register_log.specs.Fields.{Field, field, span, bytes_for, packed, written}
 use Rattle.register_log.specs.Header.{header as header_of, header_fits, header_fields, records_start, most}
 use Rattle.register_log.specs.Record.{Entry, fits, fields}
 use Rattle.register_log.specs.Recording.{State, state, begun, added, after, end_fields, log_length, roomy}
 use Rattle.register_log.specs.declared.fault.Fault.{Fault}
-use Rattle.register_log.specs.declared.fault.Fault.TheVariants.{Header as WrongField, Range}
+use Rattle.register_log.specs.declared.fault.Fault.TheVariants.{Range}
 use Rattle.register_log.specs.declared.header.Header.{Header}
 use Rattle.register_log.specs.declared.refusal.Refusal.{Refusal}
 use Rattle.register_log.specs.declared.refusal.Refusal.TheVariants.{Log, NoRoom}
 use Rattle.register_log.proofs.Packing.{length-packed, span-append}
 use Rattle.register_log.proofs.Whole.{whole_begun, whole_added, end_push, length-log, reads_back, packed_back, after_more}
-use Rattle.whole_log.specs.Outcome.{Outcome, outcome, onward, closed, recorded, recording, copied, copied_under}
+use Rattle.whole_log.specs.Outcome.{outcome, onward, closed, recorded, recording, copied, copied_under}
 use Rattle.whole_log.specs.Law.{Begins, HeaderRefused, RecordRefused, Recorded, Copied}
 
 no_ok_err : {A : Type 0} {n : ℕ} {e : Refusal} → ◌≡◌ {A = Result ℕ Refusal} (Ok n) (Err e) → A

@@ -1,19 +1,19 @@
 -- Steps of a recording, in the words of its outcome.
-use Rattle.std.proofs.Common.{◌≡◌, ℕ, zero, suc, ◌+◌, ◌-◌, ◌*◌, ◌<◌, ◌≤◌, List, [], ◌∷◌, map, length, get_or, drop, Some, None, Ok, Err, Option, Result, sym, refl, ap, ◌∙◌, subst, arith}
-use Rattle.std.proofs.lemmas.List.{drop_more, drop_all}
+use Rattle.std.proofs.Common.{◌≡◌, ℕ, zero, suc, ◌+◌, ◌-◌, ◌*◌, ◌<◌, ◌≤◌, List, ◌∷◌, map, length, get_or, drop, Ok, Err, Option, Result, sym, refl, ap, ◌∙◌, subst, arith}
+use Rattle.std.proofs.lemmas.List.{drop_more}
 use Rattle.outcome.specs.Outcome.{granted, kept}
 use Rattle.register_log.specs.Contents as contents
 use Rattle.register_log.specs.Contents.{Contents, one_more, reading}
 use Rattle.register_log.specs.Reading.{Found, end, found, decode}
 use Rattle.register_log.specs.Header.{records_start}
 use Rattle.register_log.specs.Record.{Entry, values}
-use Rattle.register_log.specs.Recording.{State, added, after}
+use Rattle.register_log.specs.Recording.{State, added}
 use Rattle.register_log.specs.declared.fault.Fault.{Fault}
 use Rattle.register_log.specs.declared.record.Record.{Record}
 use Rattle.register_log.specs.declared.refusal.Refusal.{Refusal}
 use Rattle.register_log.proofs.Decoding.{Sound, sound}
 use Rattle.register_log.proofs.Whole.{after_more}
-use Rattle.whole_log.specs.Outcome.{Outcome, outcome, onward, recorded}
+use Rattle.whole_log.specs.Outcome.{outcome, onward, recorded}
 
 -- an outcome from what the call answered and left
 pub when_granted : (s next : State) (o : Result State Refusal) → granted o ≡ Ok tt → next ≡ kept s o → o ≡ Ok next

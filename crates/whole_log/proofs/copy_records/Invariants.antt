@@ -1,4 +1,4 @@
-use Rattle.std.proofs.Common.{◌≡◌, ℕ, ◌-◌, ◌*◌, length}
+use Rattle.std.proofs.Common.{◌≡◌, ◌-◌, ◌*◌, length}
 use Rattle.register_log.specs.Contents.{contents}
 use Rattle.register_log.specs.Recording.{state}
 use Rattle.whole_log.specs.Outcome.{recorded}

@@ -8,5 +8,5 @@ returns c =
     let log = c.args.log.now in
     record {
       header = c.read.ensures;
-      law = λ before o e. subst (Copied log before) (sym e) (copy_law log before (λ k. (c.type-inv.log k).fits));
+      law = λ before o e. subst (Copied log before) (sym e) (copy_law log before (λ k. (c.type_inv.log k).fits));
     }

@@ -1,4 +1,4 @@
-use Rattle.std.proofs.Common.{◌≡◌, ◌+◌, [], drop, sym, ap, ◌∙◌, arith}
+use Rattle.std.proofs.Common.{◌≡◌, [], drop, sym, ap, ◌∙◌, arith}
 use Rattle.std.proofs.lemmas.List.{drop_all}
 use Rattle.chip.specs.Chip.{state}
 use Rattle.player.specs.Step.{put}
@@ -15,7 +15,7 @@ returns-in-Err g c = λ bit place.
 
 pub loop-byte-preserved : goal.loop-byte-preserved
 loop-byte-preserved g c =
-    let e = c.in-default.ensures in (
+    let e = c.in_default.ensures in (
       let at = c.loop-byte.invariant.0 in omega arith,
       λ bit place.
           sym
