@@ -3,7 +3,7 @@ use Rattle.std.proofs.Common.{◌≡◌, ℕ, zero, suc, ◌+◌, ◌-◌, ◌/�
 use lib.ListN.{get_or-map}
 use Rattle.std.proofs.lemmas.List.{length-map}
 use Rattle.std.proofs.lemmas.Bool.{and_parts, leb-true, ltb-true}
-use Rattle.std.specs.List.{AllByRecursion as All}
+use Rattle.std.specs.List.{AllByRecursion}
 use Rattle.wave.specs.Outcome as outcome
 use Rattle.voice.specs.Voice.{fresh, silent, silence, place}
 use Rattle.voice.specs.declared.frame.Converter.{Converter}
@@ -85,7 +85,7 @@ module _ (g : ℕ) (d : Converter) where
       (λ _. equal)))
       (λ _. equal)
 
-  -- All calls of a chip
+  -- AllByRecursion calls of a chip
 
   pub call_agrees :
       (call : ChipCall) (n : ℕ) (c : ChipState) → length c.registers.voices ≡ 8 →

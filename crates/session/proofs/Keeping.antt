@@ -1,7 +1,7 @@
 -- Stems stay stems of their mix, whatever is tried on all of them.
 use Rattle.std.proofs.Common.{◌≡◌, ℕ, zero, suc, ◌+◌, ◌<◌, Bool, true, false, cond, eqb, ltb, List, [], ◌∷◌, map, length, Ok, Err, Result, sym, refl, ap, ◌∙◌, subst, ap₂, arith, lit<}
 use lib.Bits.{xor_lt}
-use Rattle.std.specs.List.{AllByRecursion as All}
+use Rattle.std.specs.List.{AllByRecursion}
 use Rattle.wave.specs.Outcome.{kept}
 use Rattle.voice.specs.declared.frame.Converter.{Converter}
 use Rattle.voice.specs.declared.voice.Voice.{Voice}
@@ -97,7 +97,7 @@ stem_tried mix g s small Step w =
     }
 
 -- all stems
-pub stems_tried : (mix : Model) (groups : List ℕ) (stems : List Model) → All (λ g. g < 256) groups → (call : Call) → Each (StemOf mix) groups stems → Each (StemOf (tried call mix)) groups (map (tried call) stems)
+pub stems_tried : (mix : Model) (groups : List ℕ) (stems : List Model) → AllByRecursion (λ g. g < 256) groups → (call : Call) → Each (StemOf mix) groups stems → Each (StemOf (tried call mix)) groups (map (tried call) stems)
 stems_tried mix [] [] small call w = tt
 stems_tried mix [] (s ∷ stems) small call w = w
 stems_tried mix (g ∷ groups) [] small call w = w
@@ -121,9 +121,9 @@ new_stem kind mix g s small a b em eb =
     }
 
 new_stems :
-    (kind : Kind) (mix : Model) (groups : List ℕ) (stems : List Model) → All (λ g. g < 256) groups → New kind 0 mix.log mix →
-    Each (λ g s. New kind (outside g) mix.log s) groups stems → All (λ s. s.chip.memory ≡ mix.chip.memory) stems →
-    All (λ s. length s.buffer ≡ length mix.buffer) stems → Each (StemOf mix) groups stems
+    (kind : Kind) (mix : Model) (groups : List ℕ) (stems : List Model) → AllByRecursion (λ g. g < 256) groups → New kind 0 mix.log mix →
+    Each (λ g s. New kind (outside g) mix.log s) groups stems → AllByRecursion (λ s. s.chip.memory ≡ mix.chip.memory) stems →
+    AllByRecursion (λ s. length s.buffer ≡ length mix.buffer) stems → Each (StemOf mix) groups stems
 new_stems kind mix [] [] small a b em eb = tt
 new_stems kind mix [] (s ∷ stems) small a b em eb = b
 new_stems kind mix (g ∷ groups) [] small a b em eb = b

@@ -1,6 +1,6 @@
 -- The laws about a mix and its stems.
 use Rattle.std.proofs.Common.{◌≡◌, ℕ, zero, suc, ◌+◌, ◌<◌, ◌≤◌, Bool, true, false, cond, List, [], ◌∷◌, ◌++◌, map, length, ℤ, Ok, Err, Result, sym, refl, ap, ◌∙◌, subst, ap₂, arith}
-use Rattle.std.specs.List.{AllByRecursion as All}
+use Rattle.std.specs.List.{AllByRecursion}
 use Rattle.wave.specs.Outcome as outcome
 use Rattle.wave.specs.Outcome.{kept}
 use Rattle.voice.specs.Frame.{sum, contributions}
@@ -48,7 +48,7 @@ each_map R Q h [] (s ∷ ss) f w = w
 each_map R Q h (g ∷ gs) [] f w = w
 each_map R Q h (g ∷ gs) (s ∷ ss) f w = (f g s w.0, each_map R Q h gs ss f w.1)
 
-each_all : (R : ℕ → Model → Type 0) (P : Model → Type 0) (groups : List ℕ) (stations : List Model) → ((g : ℕ) (s : Model) → R g s → P s) → Each R groups stations → All P stations
+each_all : (R : ℕ → Model → Type 0) (P : Model → Type 0) (groups : List ℕ) (stations : List Model) → ((g : ℕ) (s : Model) → R g s → P s) → Each R groups stations → AllByRecursion P stations
 each_all R P [] [] f w = tt
 each_all R P [] (s ∷ ss) f w = absurd w
 each_all R P (g ∷ gs) [] f w = absurd w

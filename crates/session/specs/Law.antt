@@ -1,6 +1,6 @@
 -- The stems add up to the mix.
 use Rattle.std.specs.Prelude.{◌≡◌, ℕ, suc, ◌+◌, ◌-◌, ◌*◌, ◌/◌, ◌<◌, ◌≤◌, Bool, true, false, cond, List, [], ◌∷◌, ◌++◌, map, length, slice_index_or}
-use Rattle.std.specs.List.{AllByRecursion as All}
+use Rattle.std.specs.List.{AllByRecursion}
 use Rattle.voice.specs.Frame.{sum}
 use Rattle.voice.specs.Voice.{fresh, silence}
 use Rattle.voice.specs.declared.voice.Contribution.{Contribution}
@@ -35,7 +35,7 @@ SameVoices mix group s =
 
 pub record Level (groups : List ℕ) (mix : Model) (stems : List Model) : Type 0 where
   pub voices : Each (SameVoices mix) groups stems
-  pub memories : All (λ s. s.chip.memory.bytes ≡ mix.chip.memory.bytes) stems
+  pub memories : AllByRecursion (λ s. s.chip.memory.bytes ≡ mix.chip.memory.bytes) stems
 
 -- One call
 
@@ -99,8 +99,8 @@ pub record AddUp (mix : Model) (stems : List Model) : Type 0 where
 pub record Together (groups : List ℕ) (call : Call) (mix : Model) (stems : List Model) : Type 0 where
   pub level : Level groups mix stems
   pub answers : Each (λ group s. Agrees group call s.answer mix.answer) groups stems
-  pub shown : inspects call ≡ true → granted mix.answer ≡ true → All (λ s. s.buffer ≡ mix.buffer) stems
-  pub ticks : ticked call mix.answer ≡ true → All (λ s. ticked call s.answer ≡ true) stems × AddUp mix stems
+  pub shown : inspects call ≡ true → granted mix.answer ≡ true → AllByRecursion (λ s. s.buffer ≡ mix.buffer) stems
+  pub ticks : ticked call mix.answer ≡ true → AllByRecursion (λ s. ticked call s.answer ≡ true) stems × AddUp mix stems
 
 -- Runs
 
@@ -137,7 +137,7 @@ pub record StopAlike (calls : List Call) (mix : Model) (stems : List Model) : Ty
   pub last : Progress
   pub among : calls ≡ before ++ Step ∷ rest
   pub mix_stops : StopsAfter before last mix
-  pub stems_stop : All (StopsAfter before last) stems
+  pub stems_stop : AllByRecursion (StopsAfter before last) stems
 
 -- The law, of a mix and its stems as they begin and of calls that are tried on all of them, one by one.
 pub record Law (groups : List ℕ) (calls : List Call) (mix : Model) (stems : List Model) : Type 0 where

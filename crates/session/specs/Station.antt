@@ -1,7 +1,5 @@
 -- A station: a chip with a player of a log, a frame and a buffer that its calls fill, and the latest answer.
-use Rattle.std.specs.Prelude.{ℕ, List, [], ◌∷◌, length}
-use Rattle.wave.specs.declared.memory.Source.{Ghosts as OfSource}
-use Rattle.wave.specs.declared.memory.Store.{Ghosts as OfStore}
+use Rattle.std.specs.Prelude.{ℕ, Bool, List, [], ◌∷◌, length}
 use Rattle.voice.specs.declared.frame.Frame.{Frame}
 use Rattle.chip.specs.Chip.{state}
 use Rattle.chip.specs.Port.{State as ChipState}
@@ -24,11 +22,11 @@ pub record Model : Type 0 where
   pub answer : Answer
 
 -- a station over a store of any make
-abbrev pub model : {M : Type 0} → OfSource M → OfStore M → Station M → Model
-model source store s =
+abbrev pub model : {M : Type 0} → (M → List ℕ) → (M → ℕ → Bool) → Station M → Model
+model bytes takes s =
     record {
       log = s.player.reader.log.now;
-      chip = state source store s.chip;
+      chip = state bytes takes s.chip;
       player = stand s.player;
       frame = s.frame;
       buffer = s.buffer.now;

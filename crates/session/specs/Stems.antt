@@ -1,6 +1,6 @@
 -- Groups of voices, and what makes stations a mix and its stems.
 use Rattle.std.specs.Prelude.{◌≡◌, ℕ, ◌+◌, ◌<◌, Bool, cond, List, [], ◌∷◌, length, bit_or, bit_xor}
-use Rattle.std.specs.List.{AllByRecursion as All}
+use Rattle.std.specs.List.{AllByRecursion}
 use Rattle.voice.specs.Voice.{silent}
 use Rattle.voice.specs.declared.frame.Converter.{Converter}
 use Rattle.voice.specs.declared.voice.Voice.{Voice}
@@ -24,7 +24,7 @@ holders (group ∷ rest) k = cond (holds group k) 1 0 + holders rest k
 
 -- the groups divide the eight voices: each voice is in exactly one
 pub record Divides (groups : List ℕ) : Type 0 where
-  pub bytes : All (λ group. group < 256) groups
+  pub bytes : AllByRecursion (λ group. group < 256) groups
   pub once : (k : ℕ) → k < 8 → holders groups k ≡ 1
 
 -- the voices outside a group, which its chip mutes
@@ -51,8 +51,8 @@ pub record New (kind : Kind) (mutes : ℕ) (log : List ℕ) (s : Model) : Type 0
 pub record Begun (kind : Kind) (groups : List ℕ) (mix : Model) (stems : List Model) : Type 0 where
   pub new_mix : New kind 0 mix.log mix
   pub new_stems : Each (λ group s. New kind (outside group) mix.log s) groups stems
-  pub memories : All (λ s. s.chip.memory ≡ mix.chip.memory) stems
-  pub buffers : All (λ s. length s.buffer ≡ length mix.buffer) stems
+  pub memories : AllByRecursion (λ s. s.chip.memory ≡ mix.chip.memory) stems
+  pub buffers : AllByRecursion (λ s. length s.buffer ≡ length mix.buffer) stems
 
 -- Stations on their way
 

@@ -1,6 +1,6 @@
 -- Frames: contributions, totals, the limiter and the converters.
 use Rattle.std.specs.Prelude.{ℕ, ◌+◌, ◌-◌, ◌/◌, cond, List, [], ◌∷◌, map, ℤ, pos, negsuc, ◌+ℤ◌, neg_ℤ, ◌≤ℤ◌, int_lt}
-use Rattle.std.specs.List.{AllByRecursion as All}
+use Rattle.std.specs.List.{AllByRecursion}
 use Rattle.voice.specs.Voice.{Within, Bounded}
 use Rattle.voice.specs.declared.voice.Contribution.{Contribution}
 use Rattle.voice.specs.declared.voice.Voice.{Voice}
@@ -69,7 +69,7 @@ abbrev pub TotalWithin : ℤ → Type 0
 TotalWithin z = (neg_ℤ (pos fullest) ≤ℤ z) × (z ≤ℤ pos fullest)
 
 abbrev pub AllWithin : List ℤ → Type 0
-AllWithin xs = All Within xs
+AllWithin xs = AllByRecursion Within xs
 
 -- a side whose contributions and total are in range
 abbrev pub RangedSide : Side → Type 0
@@ -80,4 +80,4 @@ Ranged f = RangedSide f.left × RangedSide f.right
 
 -- each voice's latest contribution is in range
 abbrev pub AllBounded : List Voice → Type 0
-AllBounded voices = All (λ v. Bounded v.latest) voices
+AllBounded voices = AllByRecursion (λ v. Bounded v.latest) voices
