@@ -1,36 +1,32 @@
 -- A stem answers as its mix does, but for the voices outside its group.
-use Rattle.std.proofs.Common.{◌≡◌, ℕ, zero, suc, ◌+◌, ◌-◌, ◌/◌, ◌%◌, ◌<◌, ◌≤◌, Bool, true, false, cond, not, ◌&&◌, eqb, ltb, leb, List, [], ◌∷◌, map, length, get_or, Ok, Err, Result, sym, refl, ap, ◌∙◌, subst, ap₂, zero-add, arith}
+use Rattle.std.proofs.Common.{◌≡◌, ℕ, ◌+◌, ◌-◌, ◌/◌, ◌%◌, ◌<◌, ◌≤◌, Bool, true, false, cond, not, eqb, ltb, leb, List, length, get_or, Ok, Err, Result, sym, refl, ap, ◌∙◌, subst, zero-add, arith}
 use lib.ListN.{get_or-map}
 use Rattle.std.proofs.lemmas.List.{length-map}
 use Rattle.std.proofs.lemmas.Bool.{and_parts, leb-true, ltb-true}
-use Rattle.std.specs.List.{AllByRecursion}
 use Rattle.wave.specs.Outcome as outcome
-use Rattle.voice.specs.Voice.{fresh, silent, silence, place}
+use Rattle.voice.specs.Voice.{fresh, silent, place}
 use Rattle.voice.specs.declared.frame.Converter.{Converter}
-use Rattle.voice.specs.declared.voice.Contribution.{Contribution}
 use Rattle.voice.specs.declared.voice.Voice.{Voice}
 use Rattle.kind.specs.declared.Kind.{Kind}
 use Rattle.kind.specs.declared.Kind.TheVariants.{Rf5c68a, Rf5c164}
 use Rattle.chip.specs.Control.{bit}
-use Rattle.chip.specs.Registers.{each, latest, stands, byte_of, position_byte}
-use Rattle.chip.specs.Port.{State as ChipState, memory_size, window_start, last_address, positions_start, positions_end, has_positions, write, read, tick, inspect}
+use Rattle.chip.specs.Registers.{each, stands, byte_of, position_byte}
+use Rattle.chip.specs.Port.{State as ChipState, memory_size, window_start, last_address, positions_start, positions_end, has_positions, write, read, tick}
 use Rattle.chip.specs.declared.refusal.Refusal.{Refusal}
-use Rattle.chip.specs.declared.registers.Registers.{Registers}
 use Rattle.chip.proofs.Each.{each_at, each_length}
-use Rattle.calls.specs.Calls.{grant, byte, answer, buffered}
+use Rattle.calls.specs.Calls.{grant, byte, answer}
 use Rattle.calls.specs.declared.Call.{Call as ChipCall}
 use Rattle.calls.specs.declared.Call.TheVariants.{Reset, Write, Read, Inspect, Tick, Tell}
-use Rattle.player.specs.Step.{Stepped, step}
 use Rattle.session.specs.Station.{Model, tried}
-use Rattle.session.specs.Stems.{holds, outside, Each, muting, StemOf}
-use Rattle.session.specs.Law.{voice, SameVoices, Agrees, same, other_position, own_contributions, granted, inspects, ticked}
+use Rattle.session.specs.Stems.{holds, outside, muting, StemOf}
+use Rattle.session.specs.Law.{voice, SameVoices, Agrees, same, other_position, own_contributions}
 use Rattle.session.specs.declared.call.Answer.{Answer}
 use Rattle.session.specs.declared.call.Answer.TheVariants as answered
 use Rattle.session.specs.declared.call.Call.{Call}
 use Rattle.session.specs.declared.call.Call.TheVariants.{Chip, Step}
 use Rattle.session.proofs.Bits.{bit_outside}
 use Rattle.session.proofs.Keeping.{own, chip_of, step_of}
-use Rattle.session.proofs.Muting.{mapped, veil, muting_chip, muting_stepped, write-muting, tick-muting}
+use Rattle.session.proofs.Muting.{mapped, veil, muting_chip, write-muting, tick-muting}
 
 agrees_by : {g : ℕ} {call : Call} {x y : Answer} → x ≡ y → Agrees g call x y
 agrees_by {g} {call} {x} {y} e = subst (λ z. Agrees g call x z) e same

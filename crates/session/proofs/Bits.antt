@@ -1,5 +1,5 @@
 -- Bits of mute sets and channel registers.
-use Rattle.std.proofs.Common.{◌≡◌, ℕ, zero, suc, ◌/◌, ◌%◌, ◌^◌, ◌<◌, Bool, not, ◌||◌, eqb, sym, refl, ap, ◌∙◌, mod-lt, mod-eq_of_lt, arith, lit<}
+use Rattle.std.proofs.Common.{◌≡◌, ℕ, zero, suc, ◌/◌, ◌%◌, ◌^◌, ◌<◌, not, ◌||◌, eqb, sym, refl, ap, ◌∙◌, mod-lt, mod-eq_of_lt, arith, lit<}
 use lib.Arith.{bin_ind}
 use lib.Bits.{bit_or, bit_xor, bit_and, or_shr, or_mod, xor_shr, xor_mod, or_add_and, and_mask, and_comm}
 use Rattle.chip.specs.Control.{bit}

@@ -1,21 +1,19 @@
 -- Stems stay stems of their mix, whatever is tried on all of them.
-use Rattle.std.proofs.Common.{◌≡◌, ℕ, zero, suc, ◌+◌, ◌<◌, Bool, true, false, cond, eqb, ltb, List, [], ◌∷◌, map, length, Ok, Err, Result, sym, refl, ap, ◌∙◌, subst, ap₂, arith, lit<}
+use Rattle.std.proofs.Common.{◌≡◌, ℕ, zero, suc, ◌+◌, ◌<◌, Bool, true, false, cond, eqb, ltb, List, [], ◌∷◌, map, length, Ok, Err, sym, refl, ap, ◌∙◌, ap₂, lit<}
 use lib.Bits.{xor_lt}
 use Rattle.std.specs.List.{AllByRecursion}
 use Rattle.wave.specs.Outcome.{kept}
 use Rattle.voice.specs.declared.frame.Converter.{Converter}
-use Rattle.voice.specs.declared.voice.Voice.{Voice}
 use Rattle.kind.specs.declared.Kind.{Kind}
 use Rattle.chip.specs.Control.{window_size, place_behind}
-use Rattle.chip.specs.Registers.{made, reset, each}
-use Rattle.chip.specs.Port.{State as ChipState, memory_size, shown, inspect}
+use Rattle.chip.specs.Registers.{made}
+use Rattle.chip.specs.Port.{State as ChipState, memory_size, shown}
 use Rattle.chip.specs.declared.refusal.Refusal.{Refusal}
-use Rattle.chip.specs.declared.registers.Registers.{Registers}
 use Rattle.calls.specs.Calls.{after, buffered}
 use Rattle.calls.specs.declared.Call.TheVariants.{Reset, Write, Read, Inspect, Tick, Tell}
 use Rattle.calls.specs.declared.Call.{Call as ChipCall}
-use Rattle.player.specs.Step.{Stand, Stepped, step}
-use Rattle.session.specs.Station.{Model, tried, tried_all, after_step}
+use Rattle.player.specs.Step.{step}
+use Rattle.session.specs.Station.{Model, tried}
 use Rattle.session.specs.Stems.{Divides, outside, Each, New, Begun, muting, StemOf, MixAndStems}
 use Rattle.session.specs.declared.call.Call.{Call}
 use Rattle.session.specs.declared.call.Call.TheVariants.{Chip, Step}

@@ -1,31 +1,27 @@
 -- The laws about a mix and its stems.
-use Rattle.std.proofs.Common.{◌≡◌, ℕ, zero, suc, ◌+◌, ◌<◌, ◌≤◌, Bool, true, false, cond, List, [], ◌∷◌, ◌++◌, map, length, ℤ, Ok, Err, Result, sym, refl, ap, ◌∙◌, subst, ap₂, arith}
+use Rattle.std.proofs.Common.{◌≡◌, ℕ, Bool, true, false, cond, List, [], ◌∷◌, map, length, ℤ, Ok, Err, Result, sym, refl, ap, ◌∙◌, arith}
 use Rattle.std.specs.List.{AllByRecursion}
 use Rattle.wave.specs.Outcome as outcome
 use Rattle.wave.specs.Outcome.{kept}
 use Rattle.voice.specs.Frame.{sum, contributions}
-use Rattle.voice.specs.declared.frame.Converter.{Converter}
 use Rattle.voice.specs.declared.frame.Converter.TheVariants.{Bits16}
 use Rattle.voice.specs.declared.frame.Frame.{Frame}
 use Rattle.voice.specs.declared.frame.SideName.{SideName}
 use Rattle.voice.specs.declared.frame.SideName.TheVariants.{Left, Right}
-use Rattle.kind.specs.declared.Kind.{Kind}
 use Rattle.chip.specs.Port.{State as ChipState, inspect}
 use Rattle.chip.specs.Registers.{each}
 use Rattle.chip.specs.declared.refusal.Refusal.{Refusal}
 use Rattle.calls.specs.Calls.{grant}
 use Rattle.calls.specs.declared.Call.TheVariants.{Reset, Write, Read, Inspect, Tick, Tell}
-use Rattle.player.specs.declared.player.Progress.{Progress}
-use Rattle.session.specs.Station.{Model, tried, tried_all}
-use Rattle.session.specs.Stems.{Divides, outside, Each, Begun, muting, StemOf, MixAndStems}
-use Rattle.session.specs.Law.{SameVoices, Level, Agrees, granted, inspects, ticked, AddUp, Together, enough, steps, stops, step_after, StopsAfter, StopAlike, Law}
+use Rattle.session.specs.Station.{Model, tried}
+use Rattle.session.specs.Stems.{Divides, outside, Each, StemOf, MixAndStems}
+use Rattle.session.specs.Law.{SameVoices, Level, Agrees, granted, inspects, ticked, Together}
 use Rattle.session.specs.declared.call.Answer.TheVariants as answered
 use Rattle.session.specs.declared.call.Call.{Call}
 use Rattle.session.specs.declared.call.Call.TheVariants.{Chip, Step}
 use Rattle.session.proofs.Agreeing.{same_voices, answers_agree}
-use Rattle.session.proofs.Keeping.{own, chip_of, step_of, stem_tried, stems_tried, begun_stems}
-use Rattle.session.proofs.Muting.{veil, muting_chip}
-use Rattle.session.proofs.Stopping.{FirstStop, find_stop}
+use Rattle.session.proofs.Keeping.{chip_of, stems_tried}
+use Rattle.session.proofs.Muting.{veil}
 use Rattle.session.proofs.Ticks.{frame_now, frame_filled, ticks_alike, tried_eight}
 use Rattle.session.proofs.Totals.{groups_sum, stations_sum}
 
@@ -53,6 +49,12 @@ each_all R P [] [] f w = tt
 each_all R P [] (s ∷ ss) f w = absurd w
 each_all R P (g ∷ gs) [] f w = absurd w
 each_all R P (g ∷ gs) (s ∷ ss) f w = (f g s w.0, each_all R P gs ss f w.1)
+
+each_both : (R Q : ℕ → Model → Type 0) (groups : List ℕ) (stations : List Model) → Each R groups stations → Each Q groups stations → Each (λ g s. R g s × Q g s) groups stations
+each_both R Q [] [] v w = tt
+each_both R Q [] (s ∷ ss) v w = v
+each_both R Q (g ∷ gs) [] v w = v
+each_both R Q (g ∷ gs) (s ∷ ss) v w = ((v.0, w.0), each_both R Q gs ss v.1 w.1)
 
 map-map : (f h : Model → Model) (xs : List Model) → map f (map h xs) ≡ map (λ x. f (h x)) xs
 map-map f h [] = refl
@@ -123,5 +125,18 @@ together groups div call mix stems w =
           (λ g s x. answers_agree mix g s w.eight x call) w.each_stem;
       shown = λ i h. each_all (λ g s. s.buffer ≡ (tried call mix).buffer) (λ s. s.buffer ≡ (tried call mix).buffer) groups (map (tried call) stems) (λ g s x. x)
           (each_map (StemOf mix) (λ g s. s.buffer ≡ (tried call mix).buffer) (tried call) groups stems (λ g s x. buffers_same mix g s call i h x) w.each_stem);
-      ticks = λ h. ?;
+      ticks = λ h.
+          let each_ticked : Each (λ g s. ticked call s.answer ≡ true) groups (map (tried call) stems) =
+          each_map (StemOf mix) (λ g s. ticked call s.answer ≡ true) (tried call) groups stems
+          (λ g s x. ticks_alike g call (tried call s).answer (tried call mix).answer (answers_agree mix g s w.eight x call) h) w.each_stem in
+          let each_framed : Each (λ g s. s.frame ≡ frame_now s) groups (map (tried call) stems) =
+          each_map (StemOf mix) (λ g s. s.frame ≡ frame_now s) (tried call) groups stems
+          (λ g s x. frame_filled call s (ticks_alike g call (tried call s).answer (tried call mix).answer (answers_agree mix g s w.eight x call) h)) w.each_stem in
+          let both = each_both (StemOf (tried call mix)) (λ g s. s.frame ≡ frame_now s) groups (map (tried call) stems) after.each_stem each_framed in (
+            each_all (λ g s. ticked call s.answer ≡ true) (λ s. ticked call s.answer ≡ true) groups (map (tried call) stems) (λ g s x. x) each_ticked,
+            record {
+              left = adds Left (λ f. f.left.total) (λ s. refl) groups div (tried call mix) (map (tried call) stems) after.eight (frame_filled call mix h) both;
+              right = adds Right (λ f. f.right.total) (λ s. refl) groups div (tried call mix) (map (tried call) stems) after.eight (frame_filled call mix h) both;
+            },
+          );
     }

@@ -8,8 +8,7 @@ use Rattle.voice.specs.Voice.{fresh, silent, sounded}
 use Rattle.voice.specs.Voice as one
 use Rattle.voice.specs.declared.frame.Converter.{Converter}
 use Rattle.voice.specs.declared.voice.Voice.{Voice}
-use Rattle.kind.specs.declared.Kind.{Kind}
-use Rattle.chip.specs.Control.{bit, controlled, place_behind}
+use Rattle.chip.specs.Control.{bit, place_behind}
 use Rattle.chip.specs.Registers.{each, edited, registered, reset, sounds, ticked, with_voices, with_channel}
 use Rattle.chip.specs.Port.{State as ChipState, memory_size, window_start, last_address, last_register, with_registers, with_memory, in_memory, write, tick}
 use Rattle.chip.specs.declared.refusal.Refusal.{Refusal}
@@ -22,7 +21,7 @@ use Rattle.register_log.specs.Header.{header, records_start}
 use Rattle.register_log.specs.Reading.{Found, end, found, decode}
 use Rattle.register_log.specs.Record.{Entry, register, window, wait, block}
 use Rattle.register_log.specs.declared.fault.Fault.{Fault as LogFault}
-use Rattle.player.specs.Step.{Stand, Stepped, unless_refused, put, obeyed, taken, for_kind, opened, waited, between, by_state, step}
+use Rattle.player.specs.Step.{Stepped, unless_refused, put, obeyed, taken, for_kind, opened, waited, by_state}
 use Rattle.player.specs.declared.player.State.{State}
 use Rattle.player.specs.declared.player.State.TheVariants.{Between, Waiting, Ended, Faulted}
 use Rattle.session.specs.Stems.{muting}

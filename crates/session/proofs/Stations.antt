@@ -1,5 +1,5 @@
 -- A station after a call of its chip, or after a step.
-use Rattle.std.proofs.Common.{◌≡◌, ℕ, List, length, ap, ◌∙◌, subst}
+use Rattle.std.proofs.Common.{◌≡◌, ℕ, List, length, subst}
 use Rattle.voice.specs.declared.frame.Frame.{Frame}
 use Rattle.calls.specs.Calls.{after, buffered, framed as framed-by, answer as answer-of}
 use Rattle.calls.specs.declared.Answer.{Answer}

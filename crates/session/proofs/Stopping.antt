@@ -1,24 +1,23 @@
 -- Enough steps stop a player, whatever calls stand between them.
-use Rattle.std.proofs.Common.{◌≡◌, ℕ, zero, suc, ◌+◌, ◌-◌, ◌*◌, ◌^◌, ◌<◌, ◌≤◌, Bool, true, false, cond, ◌&&◌, eqb, ltb, leb, ◌⊎◌, List, [], ◌∷◌, ◌++◌, length, Ok, Err, Result, sym, refl, ap, ◌∙◌, subst, inl, inr, ⊎_elim, arith}
-use Rattle.std.proofs.lemmas.Bool.{leb-true, leb-false, ltb-true, ltb-false, le-ltb, lt-ltb, cond_both, cond-true, cond-false, cases_Bool, cases_lt}
+use Rattle.std.proofs.Common.{◌≡◌, ℕ, ◌+◌, ◌-◌, ◌*◌, ◌<◌, ◌≤◌, Bool, true, false, cond, eqb, ltb, leb, ◌⊎◌, List, [], ◌∷◌, ◌++◌, length, Ok, Err, Result, sym, refl, ap, ◌∙◌, inl, inr, ⊎_elim, arith}
+use Rattle.std.proofs.lemmas.Bool.{leb-true, leb-false, le-ltb, lt-ltb, cond_both, cond-true, cond-false, cases_lt}
 use Rattle.chip.specs.Port.{State as ChipState, window_start, write, tick}
 use Rattle.chip.specs.declared.refusal.Refusal.{Refusal}
 use Rattle.chip.specs.declared.registers.Registers.{Registers}
 use Rattle.calls.specs.declared.Call.{Call as ChipCall}
-use Rattle.register_log.specs.Fields.{field, gap, bytes_for}
+use Rattle.register_log.specs.Fields.{field, bytes_for}
 use Rattle.register_log.specs.Header.{header, length_fits, records_start}
-use Rattle.register_log.specs.Reading.{Found, end, found, decode, tagged, whole, padded, ends, end_at, register_at, window_at, wait_at, payload_at, block_at}
+use Rattle.register_log.specs.Reading.{Found, end, found, decode, tagged, padded, ends, register_at, window_at, wait_at, payload_at, block_at}
 use Rattle.register_log.specs.Record.{Entry, register, window, wait, block, address_fits, ticks_fit, block_fits}
 use Rattle.register_log.specs.declared.fault.Fault.{Fault as LogFault}
-use Rattle.register_log.specs.declared.fault.Fault.TheVariants.{Length, Cut, Tag, Range, Padding}
+use Rattle.register_log.specs.declared.fault.Fault.TheVariants.{Cut}
 use Rattle.register_log.proofs.Fields.{field_below}
-use Rattle.player.specs.Step.{Stand, Stepped, unless_refused, put, obeyed, taken, for_kind, opened, waited, less_one, between, by_state, step, new}
+use Rattle.player.specs.Step.{Stand, Stepped, unless_refused, put, taken, for_kind, opened, waited, between, by_state, step}
 use Rattle.player.specs.declared.player.Progress.{Progress}
-use Rattle.player.specs.declared.player.Progress.TheVariants.{Taken, Ticked, Ended as AtEnd, Faulted as AtFault}
 use Rattle.player.specs.declared.player.State.{State}
 use Rattle.player.specs.declared.player.State.TheVariants.{Between, Waiting, Ended, Faulted}
-use Rattle.session.specs.Station.{Model, tried, tried_all}
-use Rattle.session.specs.Law.{steps, enough, stops, step_after, StopsAfter}
+use Rattle.session.specs.Station.{Model, tried}
+use Rattle.session.specs.Law.{steps, stops, step_after, StopsAfter}
 use Rattle.session.specs.declared.call.Answer.TheVariants as answered
 use Rattle.session.specs.declared.call.Call.{Call}
 use Rattle.session.specs.declared.call.Call.TheVariants.{Chip, Step}

@@ -1,12 +1,11 @@
 -- Granted ticks: their frames, and eight voices.
-use Rattle.std.proofs.Common.{◌≡◌, ℕ, ◌+◌, ◌-◌, Bool, true, false, cond, eqb, ltb, leb, List, [], ◌∷◌, length, Ok, Err, Result, sym, refl, ap, ◌∙◌, arith}
+use Rattle.std.proofs.Common.{◌≡◌, ℕ, ◌+◌, Bool, true, false, cond, eqb, ltb, List, [], ◌∷◌, length, Ok, Err, Result, refl, ap, ◌∙◌, arith}
 use Rattle.wave.specs.Outcome as outcome
 use Rattle.wave.specs.Outcome.{kept}
 use Rattle.voice.specs.Frame.{frame as frame-of}
 use Rattle.voice.specs.declared.frame.Frame.{Frame}
-use Rattle.voice.specs.declared.voice.Voice.{Voice}
 use Rattle.chip.specs.Port.{State as ChipState, memory_size, window_start, write, tick, filled}
-use Rattle.chip.specs.Registers.{each, edited, registered, sounds, ticked as ticked-registers}
+use Rattle.chip.specs.Registers.{edited, registered, ticked as ticked-registers}
 use Rattle.chip.specs.declared.refusal.Refusal.{Refusal}
 use Rattle.chip.specs.declared.registers.Registers.{Registers}
 use Rattle.chip.proofs.Each.{each_length}
@@ -16,9 +15,9 @@ use Rattle.calls.specs.declared.Call.TheVariants.{Reset, Write, Read, Inspect, T
 use Rattle.calls.proofs.Keeps.{Eight, write_keeps, registered_keeps}
 use Rattle.register_log.specs.Header.{header, records_start}
 use Rattle.register_log.specs.Reading.{Found, end, found, decode}
-use Rattle.register_log.specs.Record.{Entry, register, window, wait, block}
+use Rattle.register_log.specs.Record.{register, window, wait, block}
 use Rattle.register_log.specs.declared.fault.Fault.{Fault as LogFault}
-use Rattle.player.specs.Step.{Stepped, unless_refused, put, obeyed, taken, for_kind, opened, waited, by_state, step, framed}
+use Rattle.player.specs.Step.{Stepped, unless_refused, put, taken, for_kind, opened, waited, by_state, step, framed}
 use Rattle.player.specs.declared.player.Progress.{Progress}
 use Rattle.player.specs.declared.player.Progress.TheVariants.{Taken, Ticked, Ended as AtEnd, Faulted as AtFault}
 use Rattle.player.specs.declared.player.State.{State}

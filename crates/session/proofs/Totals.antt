@@ -7,7 +7,6 @@ use Rattle.voice.specs.declared.frame.Converter.{Converter}
 use Rattle.voice.specs.declared.frame.SideName.{SideName}
 use Rattle.voice.specs.declared.frame.SideName.TheVariants.{Left, Right}
 use Rattle.voice.specs.declared.voice.Voice.{Voice}
-use Rattle.chip.specs.Control.{bit}
 use Rattle.chip.specs.Registers.{each}
 use Rattle.session.specs.Station.{Model}
 use Rattle.session.specs.Stems.{holds, holders, Divides, outside, Each}

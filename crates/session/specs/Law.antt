@@ -1,21 +1,19 @@
 -- The stems add up to the mix.
-use Rattle.std.specs.Prelude.{◌≡◌, ℕ, suc, ◌+◌, ◌-◌, ◌*◌, ◌/◌, ◌<◌, ◌≤◌, Bool, true, false, cond, List, [], ◌∷◌, ◌++◌, map, length, slice_index_or}
+use Rattle.std.specs.Prelude.{◌≡◌, ℕ, suc, ◌+◌, ◌-◌, ◌*◌, ◌/◌, ◌<◌, ◌≤◌, Bool, true, false, List, [], ◌∷◌, ◌++◌, map, length, slice_index_or}
 use Rattle.std.specs.List.{AllByRecursion}
 use Rattle.voice.specs.Frame.{sum}
 use Rattle.voice.specs.Voice.{fresh, silence}
 use Rattle.voice.specs.declared.voice.Contribution.{Contribution}
 use Rattle.voice.specs.declared.voice.Voice.{Voice}
-use Rattle.kind.specs.declared.Kind.{Kind}
 use Rattle.chip.specs.Port.{positions_start, positions_end}
 use Rattle.chip.specs.Registers.{stands}
 use Rattle.calls.specs.declared.Answer.TheVariants.{Granted, Byte, Contributions, Refused}
 use Rattle.calls.specs.declared.Answer.{Answer as ChipAnswer}
-use Rattle.calls.specs.declared.Call.{Call as ChipCall}
 use Rattle.calls.specs.declared.Call.TheVariants.{Reset, Write, Read, Inspect, Tick, Tell}
 use Rattle.player.specs.declared.player.Progress.{Progress}
 use Rattle.player.specs.declared.player.Progress.TheVariants.{Taken, Ticked, Ended, Faulted}
 use Rattle.session.specs.Station.{Model, tried, tried_all}
-use Rattle.session.specs.Stems.{holds, Each, MixAndStems}
+use Rattle.session.specs.Stems.{holds, Each}
 use Rattle.session.specs.declared.call.Answer.{Answer}
 use Rattle.session.specs.declared.call.Answer.TheVariants as answered
 use Rattle.session.specs.declared.call.Call.{Call}

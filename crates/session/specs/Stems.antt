@@ -3,7 +3,6 @@ use Rattle.std.specs.Prelude.{◌≡◌, ℕ, ◌+◌, ◌<◌, Bool, cond, List
 use Rattle.std.specs.List.{AllByRecursion}
 use Rattle.voice.specs.Voice.{silent}
 use Rattle.voice.specs.declared.frame.Converter.{Converter}
-use Rattle.voice.specs.declared.voice.Voice.{Voice}
 use Rattle.kind.specs.declared.Kind.{Kind}
 use Rattle.chip.specs.Control.{bit}
 use Rattle.chip.specs.Registers.{each, made}
