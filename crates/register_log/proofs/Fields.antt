@@ -64,7 +64,7 @@ field_front xs ys place width h =
     ap (λ x. x / 2 ^ (7 - (place + k) % 8) % 2) (get_or_append_left xs ys 0 ((place + k) / 8) within))
 
 -- the number whose binary digits stand in the field
-field_of :
+pub field_of :
     (bytes : List ℕ) (place width v : ℕ) →
     ((k : ℕ) → k < width → bit_at bytes (place + k) ≡ v / 2 ^ (width - 1 - k) % 2) → field bytes place width ≡ v % 2 ^ width
 field_of bytes place zero v h = rw field-zero (omega arith)
