@@ -1,17 +1,13 @@
 // A station: a chip with a player of a log.
 ghost use Rattle.std.specs.Prelude.{◌≡◌};
-ghost use Rattle.wave.specs.Means.{means};
-ghost use Rattle.chip.specs.Registers.{made};
-ghost use Rattle.player.specs.Step.{new};
 ghost use Rattle.session.specs.Station.{Model, model, tried};
 
 use crate::call::{Answer, Call};
 use calls::perform;
 use chip::chip::Chip;
-use kind::Kind;
 use player::player::Player;
-use voice::frame::{Converter, Frame};
-use wave::memory::{Source, Store};
+use voice::frame::Frame;
+use wave::memory::Store;
 
 pub struct Station<'a, 'b, M> {
     chip: Chip<M>,

@@ -1,2 +1,1 @@
 // The stems of a mix.
-ghost use Rattle.std.specs.Prelude.{◌≡◌};
