@@ -1,3 +1,2 @@
 pub mod Keeps
 pub mod Switching
-pub mod Runs

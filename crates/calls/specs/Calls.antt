@@ -1,32 +1,35 @@
 -- What each call answers, and what it leaves.
-use Rattle.std.specs.Prelude.{ℕ, List, [], ◌∷◌, length, Ok, Err, Result}
-use Rattle.wave.specs.Outcome as outcome
-use Rattle.wave.specs.Outcome.{kept}
-use Rattle.voice.specs.declared.frame.Frame.{Frame}
+use Rattle.std.specs.Prelude.{ℕ, List, [], ◌∷◌, length, Some, None, Ok, Option, Result}
+use Rattle.std.specs.Result.{result_map_both}
+use Rattle.outcome.specs.Outcome.{kept}
+use Rattle.voice.specs.Frame.{Frame}
 use Rattle.chip.specs.Registers.{reset, latest}
 use Rattle.chip.specs.Port.{State, with_registers, write, read, inspect, tick, filled}
 use Rattle.chip.specs.declared.refusal.Refusal.{Refusal}
 use Rattle.calls.specs.declared.Call.{Call}
 use Rattle.calls.specs.declared.Call.TheVariants.{Reset, Write, Read, Inspect, Tick, Tell}
-use Rattle.calls.specs.declared.Answer.{Answer}
-use Rattle.calls.specs.declared.Answer.TheVariants.{Granted, Byte, Contributions, Refused}
+use Rattle.calls.specs.declared.Reply.{Reply}
+use Rattle.calls.specs.declared.Reply.TheVariants.{Byte, Contributions}
 
-abbrev pub grant : Result (Unit {0}) Refusal → Answer
-grant (Ok u) = Granted
-grant (Err e) = Refused e
+-- the reply, if the call has one, or the refusal
+abbrev pub Answer : Type 0
+Answer = Result (Option Reply) Refusal
 
-abbrev pub byte : Result ℕ Refusal → Answer
-byte (Ok b) = Byte b
-byte (Err e) = Refused e
+-- the answer to a call with no reply of its own
+abbrev pub no_reply : {A : Type 0} → Result A Refusal → Answer
+no_reply outcome = result_map_both (λ _. None) (λ e. e) outcome
+
+abbrev pub read_answer : Result ℕ Refusal → Answer
+read_answer outcome = result_map_both (λ byte. Some (Byte byte)) (λ e. e) outcome
 
 -- the answer; an inspection is of so many bytes as the buffer has
 abbrev pub answer : Call → ℕ → State → Answer
-answer Reset n s = Granted
-answer (Write address b) n s = grant (outcome.granted (write s address b))
-answer (Read address) n s = byte (read s.memory.bytes s.registers address)
-answer (Inspect offset) n s = grant (outcome.granted (inspect s.memory.bytes s.registers offset n))
-answer Tick n s = grant (outcome.granted (tick s.memory.bytes s.registers))
-answer Tell n s = Contributions (latest s.registers)
+answer Reset n s = Ok None
+answer (Write address b) n s = no_reply (write s address b)
+answer (Read address) n s = read_answer (read s.memory.bytes s.registers address)
+answer (Inspect offset) n s = no_reply (inspect s.memory.bytes s.registers offset n)
+answer Tick n s = no_reply (tick s.memory.bytes s.registers)
+answer Tell n s = Ok (Some (Contributions (latest s.registers)))
 
 -- the chip afterwards
 abbrev pub after : Call → State → State

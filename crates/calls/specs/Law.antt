@@ -2,9 +2,8 @@
 use Rattle.std.specs.Prelude.{◌≡◌, ℕ, ◌+◌, ◌%◌, ◌<◌, Bool, true, false, List, [], ◌∷◌, ◌++◌, length, ◌==◌, slice_index_or}
 use Rattle.wave.specs.Memory.{Memory}
 use Rattle.voice.specs.Voice.{fresh, silence, positions, step, start, position, landing, landed}
-use Rattle.voice.specs.declared.frame.Converter.{Converter}
 use Rattle.voice.specs.declared.voice.Voice.{Voice}
-use Rattle.kind.specs.declared.Kind.{Kind}
+use Rattle.chip.specs.declared.registers.Setup.{Setup}
 use Rattle.chip.specs.Control.{bit}
 use Rattle.chip.specs.Registers.{made, sounds}
 use Rattle.chip.specs.Port.{State, memory_size}
@@ -13,8 +12,8 @@ use Rattle.calls.specs.declared.Call.{Call}
 use Rattle.calls.specs.declared.Call.TheVariants.{Reset, Write, Read, Inspect, Tick, Tell}
 
 -- a new chip
-abbrev pub new : Memory → Kind → Converter → ℕ → State
-new memory kind converter mutes = record { registers = made kind converter mutes; memory = memory }
+abbrev pub new : Memory → Setup → State
+new memory setup = record { registers = made setup; memory = memory }
 
 -- voice k, from 0
 abbrev pub voice_of : State → ℕ → Voice
@@ -71,7 +70,7 @@ pub record Law (s : State) (calls : List Call) : Type 0 where
   -- no tick finds a muted voice on
   pub muted :
       (before rest : List Call) → calls ≡ before ++ rest → (k : ℕ) → k < 8 →
-      bit s.registers.mutes k ≡ true → found_on (after_all before s) k ≡ false
+      bit s.registers.setup.mutes k ≡ true → found_on (after_all before s) k ≡ false
   -- a voice that a granted tick finds off contributes 0 in it
   pub silent :
       (before rest : List Call) → calls ≡ before ++ Tick ∷ rest → (k : ℕ) → k < 8 →

@@ -4,18 +4,18 @@
 ghost use Rattle.std.specs.Prelude.{◌≡◌, List, length};
 ghost use Rattle.wave.specs.Means.{means};
 ghost use Rattle.chip.specs.Chip.{state};
-ghost use Rattle.calls.specs.Calls.{grant, answer, after, framed, buffered, after_all, framed_all, buffered_all};
+ghost use Rattle.calls.specs.Calls.{answer, after, framed, buffered, after_all, framed_all, buffered_all};
 ghost use Rattle.calls.specs.Law.{new, Law};
 
 use chip::chip::Chip;
 use chip::refusal::Refusal;
-use kind::Kind;
-use voice::frame::{Converter, Frame};
+use chip::registers::Setup;
+use voice::frame::Frame;
 use voice::voice::Contribution;
 use wave::memory::{Source, Store};
 
 // What is asked of a chip. A tick fills the lent frame, an inspection from an offset on the lent buffer.
-#[derive(Clone, Copy)]
+#[derive(Clone, Copy, PartialEq, Eq, Debug)]
 pub enum Call {
     Reset,
     Write(u16, u8),
@@ -25,24 +25,19 @@ pub enum Call {
     Tell,
 }
 
-// What a chip answers.
-#[derive(Clone, Copy)]
-pub enum Answer {
-    Granted,
+// What a chip replies to a granted read, and to a telling.
+#[derive(Clone, Copy, PartialEq, Eq, Debug)]
+pub enum Reply {
     Byte(u8),
     Contributions([Contribution; 8]),
-    Refused(Refusal),
 }
 
-fn granted(answer: Result<(), Refusal>) -> Answer
-    ensures { result ≡ grant answer }
-{
-    match answer {
-        Ok(()) => Answer::Granted,
-        Err(refusal) => Answer::Refused(refusal),
-    }
-}
+// What a chip answers: its reply, if the call has one, or its refusal.
+pub type Answer = Result<Option<Reply>, Refusal>;
 
+// The frame and the buffer are the caller's, lent anew at each call, and so no part of the chip.
+// Carries out a call. The frame and the buffer are parameters of their own, since each is lent by itself: a tick alone
+// writes the one, an inspection alone the other.
 pub fn perform<M: Store>(
     chip: &mut Chip<M>,
     call: Call,
@@ -57,54 +52,34 @@ pub fn perform<M: Store>(
     match call {
         Call::Reset => {
             chip.reset();
-            Answer::Granted
+            Ok(None)
         }
-        Call::Write(address, byte) => granted(chip.write(address, byte)),
-        Call::Read(address) => match chip.read(address) {
-            Ok(byte) => Answer::Byte(byte),
-            Err(refusal) => Answer::Refused(refusal),
-        },
-        Call::Inspect(offset) => granted(chip.inspect(offset, buffer)),
-        Call::Tick => granted(chip.tick(frame)),
-        Call::Tell => Answer::Contributions(chip.contributions()),
+        Call::Write(address, byte) => chip.write(address, byte).map(|()| None),
+        Call::Read(address) => chip.read(address).map(|byte| Some(Reply::Byte(byte))),
+        Call::Inspect(offset) => chip.inspect(offset, buffer).map(|()| None),
+        Call::Tick => chip.tick(frame).map(|()| None),
+        Call::Tell => Ok(Some(Reply::Contributions(chip.contributions()))),
     }
 }
 
 // A new chip after a list of calls.
 pub fn run<M: Store>(
     memory: M,
-    kind: Kind,
-    converter: Converter,
-    mutes: u8,
+    setup: Setup,
     calls: &[Call],
     frame: &mut Frame,
     buffer: &mut [u8],
 ) -> Chip<M>
-    ensures after { state M.bytes M.takes result ≡ after_all calls.now (new (means M.bytes M.takes memory) kind converter mutes) }
+    ensures after { state M.bytes M.takes result ≡ after_all calls.now (new (means M.bytes M.takes memory) setup) }
     ensures frame { frame.new
-        ≡ framed_all calls.now (new (means M.bytes M.takes memory) kind converter mutes) frame.old }
+        ≡ framed_all calls.now (new (means M.bytes M.takes memory) setup) frame.old }
     ensures buffer { buffer.new
-        ≡ buffered_all calls.now (new (means M.bytes M.takes memory) kind converter mutes) buffer.old }
-    ensures law { Law (new (means M.bytes M.takes memory) kind converter mutes) calls.now }
+        ≡ buffered_all calls.now (new (means M.bytes M.takes memory) setup) buffer.old }
+    ensures law { Law (new (means M.bytes M.takes memory) setup) calls.now }
 {
-    let mut chip = begin(memory, kind, converter, mutes);
-    perform_all(&mut chip, calls, frame, buffer);
-    chip
-}
-
-fn begin<M: Store>(memory: M, kind: Kind, converter: Converter, mutes: u8) -> Chip<M>
-    ensures new { state M.bytes M.takes result ≡ new (means M.bytes M.takes memory) kind converter mutes }
-    ensures law { (calls : List Call) → Law (new (means M.bytes M.takes memory) kind converter mutes) calls }
-{
-    Chip::new(memory, kind, converter, mutes)
-}
-
-fn perform_all<M: Store>(chip: &mut Chip<M>, calls: &[Call], frame: &mut Frame, buffer: &mut [u8])
-    ensures after { state M.bytes M.takes chip.new ≡ after_all calls.now (state M.bytes M.takes chip.old) }
-    ensures frame { frame.new ≡ framed_all calls.now (state M.bytes M.takes chip.old) frame.old }
-    ensures buffer { buffer.new ≡ buffered_all calls.now (state M.bytes M.takes chip.old) buffer.old }
-{
+    let mut chip = Chip::new(memory, setup);
     for call in calls {
-        let _ = perform(chip, *call, frame, buffer);
+        let _ = perform(&mut chip, *call, frame, buffer);
     }
+    chip
 }

@@ -1,11 +1,8 @@
 -- Bits of a byte.
-use Rattle.std.proofs.Common.{◌≡◌, ℕ, ◌%◌, ◌^◌, ◌<◌, ◌≤◌, false, eqb, ap, arith, pow_mono}
-use native.Mathlib.Nat.{div-eq_of_lt}
+use Rattle.std.proofs.Common.{◌≡◌, ℕ, ◌<◌, ◌≤◌, false, eqb, ap}
+use Rattle.std.proofs.lemmas.Nat.Bits.{bit_at_above}
 use Rattle.chip.specs.Control.{bit}
 
 -- a byte has eight bits
 pub bit_past : (n k : ℕ) → n < 256 → 8 ≤ k → bit n k ≡ false
-bit_past n k h l =
-    let high : 2 ^ 8 ≤ 2 ^ k = pow_mono l in
-    let small : n < 2 ^ k = omega arith in
-    ap (λ x. eqb (x % 2) 1) (div-eq_of_lt small)
+bit_past n k h l = ap (λ b. eqb b 1) (bit_at_above n 8 k h l)

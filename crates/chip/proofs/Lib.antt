@@ -1,4 +1,3 @@
 pub mod Bit
 pub mod Each
 pub mod Shown
-pub mod Checks

@@ -2,12 +2,13 @@
 use Rattle.std.specs.Prelude.{ℕ, zero, suc, ◌+◌, ◌-◌, Bool, false, cond, ◌&&◌, List, [], ◌∷◌, length, Ok, Err, Result, ◌==◌, nat_le, nat_lt, slice_index}
 use Rattle.wave.specs.Memory.{Memory, fetch, store}
 use Rattle.wave.specs.declared.memory.Refusal.{Refusal as MemoryRefusal}
-use Rattle.voice.specs.Frame.{frame as frame-of}
-use Rattle.voice.specs.declared.frame.Frame.{Frame}
+use Rattle.voice.specs.Frame.{frame as frame-of, Frame}
 use Rattle.kind.specs.declared.Kind.{Kind}
 use Rattle.kind.specs.declared.Kind.TheVariants.{Rf5c68a, Rf5c164}
 use Rattle.chip.specs.Control.{window_size, place_behind}
 use Rattle.chip.specs.Registers.{registered, position_byte, ticked}
+use Rattle.chip.specs.declared.port.Target.{Target}
+use Rattle.chip.specs.declared.port.Target.TheVariants.{Register, Position, Window}
 use Rattle.chip.specs.declared.refusal.Refusal.{Refusal}
 use Rattle.chip.specs.declared.refusal.Refusal.TheVariants.{MemorySize, BeyondPort, NothingThere, Sounding, PastWindow, Memory as InMemory}
 use Rattle.chip.specs.declared.registers.Registers.{Registers}
@@ -47,6 +48,19 @@ sized bytes outcome = cond (length bytes == memory_size) outcome (Err MemorySize
 abbrev pub port : {A : Type 0} → ℕ → Result A Refusal → Result A Refusal → Result A Refusal
 port address below window = cond (nat_lt last_address address) (Err BeyondPort) (cond (nat_lt address window_start) below window)
 
+-- only an RF5C164 has position registers
+abbrev pub has_positions : Kind → ℕ → Bool
+has_positions Rf5c68a address = false
+has_positions Rf5c164 address = nat_le positions_start address && nat_lt address positions_end
+
+-- where an address leads: a register, a byte of the position registers, or an offset in the window
+abbrev pub target : ℕ → Result Target Refusal
+target address =
+    port address
+    (cond (nat_le address last_register) (Ok (Register address))
+    (cond (has_positions Rf5c164 address) (Ok (Position (address - positions_start))) (Err NothingThere)))
+    (Ok (Window (address - window_start)))
+
 -- a memory's refusal within a chip's
 abbrev pub in_memory : {A : Type 0} → Result A MemoryRefusal → Result A Refusal
 in_memory (Ok x) = Ok x
@@ -70,16 +84,11 @@ write s address byte =
 
 -- Reads, which change nothing
 
--- only an RF5C164 has position registers
-abbrev pub has_positions : Kind → ℕ → Bool
-has_positions Rf5c68a address = false
-has_positions Rf5c164 address = nat_le positions_start address && nat_lt address positions_end
-
 abbrev pub read : List ℕ → Registers → ℕ → Result ℕ Refusal
 read bytes r address =
     sized bytes
     (port address
-    (cond (has_positions r.kind address) (Ok (position_byte r.voices (address - positions_start))) (Err NothingThere))
+    (cond (has_positions r.setup.kind address) (Ok (position_byte r.voices (address - positions_start))) (Err NothingThere))
     (cond r.control.on (Err Sounding) (in_memory (fetch bytes (place_behind r.control (address - window_start))))))
 
 -- Inspections, which change nothing either
@@ -100,5 +109,5 @@ tick bytes r = sized bytes (Ok (ticked bytes r))
 
 -- a frame after a tick: filled where it was granted
 abbrev pub filled : Frame → Result Registers Refusal → Frame
-filled before (Ok r) = frame-of r.converter r.voices
+filled before (Ok r) = frame-of r.setup.converter r.voices
 filled before (Err e) = before

@@ -1,41 +1,37 @@
 -- All that a chip holds beside its memory: how it is made, what a register write and a tick do to it.
 use Rattle.std.specs.Prelude.{ℕ, suc, ◌/◌, ◌%◌, ◌^◌, Bool, false, cond, not, ◌&&◌, List, [], ◌∷◌, map, replicate, ◌==◌, bit_or, nat_lt, slice_index_or}
-use Rattle.kind.specs.declared.Kind.{Kind}
-use Rattle.voice.specs.Voice.{fresh, position, place, tick}
-use Rattle.voice.specs.declared.frame.Converter.{Converter}
+use Rattle.voice.specs.Voice.{fresh, position, place, tick, Contribution}
 use Rattle.voice.specs.declared.voice.Settings.{Settings}
 use Rattle.voice.specs.declared.voice.Voice.{Voice}
-use Rattle.voice.specs.declared.voice.Contribution.{Contribution}
 use Rattle.chip.specs.Control.{bit, controlled}
 use Rattle.chip.specs.declared.control.Control.{Control}
 use Rattle.chip.specs.declared.registers.Registers.{Registers}
+use Rattle.chip.specs.declared.registers.Setup.{Setup}
 
 -- a new chip
-abbrev pub made : Kind → Converter → ℕ → Registers
-made kind converter mutes =
+abbrev pub made : Setup → Registers
+made setup =
     record {
-      kind = kind;
-      converter = converter;
-      mutes = mutes;
+      setup = setup;
       control = record { on = false; bank = 0; selected = 0 };
       channel = 255;
       voices = replicate 8 fresh;
     }
 
 abbrev pub reset : Registers → Registers
-reset r = made r.kind r.converter r.mutes
+reset r = made r.setup
 
 abbrev pub with_control : Registers → Control → Registers
 with_control r c =
-    record { kind = r.kind; converter = r.converter; mutes = r.mutes; control = c; channel = r.channel; voices = r.voices }
+    record { setup = r.setup; control = c; channel = r.channel; voices = r.voices }
 
 abbrev pub with_channel : Registers → ℕ → Registers
 with_channel r byte =
-    record { kind = r.kind; converter = r.converter; mutes = r.mutes; control = r.control; channel = byte; voices = r.voices }
+    record { setup = r.setup; control = r.control; channel = byte; voices = r.voices }
 
 abbrev pub with_voices : Registers → List Voice → Registers
 with_voices r voices =
-    record { kind = r.kind; converter = r.converter; mutes = r.mutes; control = r.control; channel = r.channel; voices = voices }
+    record { setup = r.setup; control = r.control; channel = r.channel; voices = voices }
 
 -- each voice changed by a rule that knows its number, from k on
 abbrev pub each : (ℕ → Voice → Voice) → ℕ → List Voice → List Voice
@@ -70,7 +66,7 @@ abbrev pub registered : Registers → ℕ → ℕ → Registers
 registered r address byte =
     cond (nat_lt address 7) (with_voices r (chosen r.control.selected (edited address byte) r.voices))
     (cond (address == 7) (with_control r (controlled r.control byte))
-    (cond (address == 8) (with_channel r (bit_or byte r.mutes)) r))
+    (cond (address == 8) (with_channel r (bit_or byte r.setup.mutes)) r))
 
 -- Positions
 

@@ -1,34 +1,22 @@
 // A sound chip over a wave memory: host port, inspection and tick.
-ghost use Rattle.std.specs.Prelude.{◌≡◌, ◌^◌, ◌<◌, ◌≤◌, length, Ok, Err};
-ghost use Rattle.wave.specs.Outcome.{granted, kept};
+ghost use Rattle.std.specs.Prelude.{◌≡◌, ◌^◌, ◌<◌, ◌≤◌, length, Ok};
+ghost use Rattle.outcome.specs.Outcome.{granted, kept};
 ghost use Rattle.voice.specs.Frame.{Ranged};
 ghost use Rattle.chip.specs.Registers.{made, reset, latest};
-ghost use Rattle.chip.specs.Port.{sized, port, shown, write, read, inspect, tick, filled};
+ghost use Rattle.chip.specs.Port.{sized, target, shown, write, read, inspect, tick, filled};
 ghost use Rattle.chip.specs.Chip.{state};
 
 use crate::control::{Quiet, WINDOW_SIZE};
+use crate::port::Target;
 use crate::refusal::Refusal;
-use crate::registers::Registers;
+use crate::registers::{Registers, Setup};
 use kind::Kind;
-use voice::frame::{Converter, Frame};
+use voice::frame::Frame;
 use voice::voice::Contribution;
 use wave::memory::{Source, Store, byte_at};
 
 // How many bytes the memory under a chip has.
 const MEMORY_SIZE: usize = 65_536;
-
-// The host addresses: where the window starts, and the last.
-const WINDOW_START: u16 = 0x1000;
-
-const LAST_ADDRESS: u16 = 0x1FFF;
-
-// The last register that can be written.
-const LAST_REGISTER: u16 = 8;
-
-// The position registers: the first, and the first address past them.
-const POSITIONS_START: u16 = 0x10;
-
-const POSITIONS_END: u16 = 0x20;
 
 #[derive(Drop)]
 pub struct Chip<M> {
@@ -37,33 +25,27 @@ pub struct Chip<M> {
 }
 
 impl<M> Chip<M> {
-    pub fn new(memory: M, kind: Kind, converter: Converter, mutes: u8) -> Chip<M>
-        ensures registers { result.registers ≡ made kind converter mutes }
+    pub fn new(memory: M, setup: Setup) -> Chip<M>
+        ensures registers { result.registers ≡ made setup }
         ensures memory { result.memory ≡ memory }
     {
         Chip {
-            registers: Registers::new(kind, converter, mutes),
+            registers: Registers::new(setup),
             memory,
         }
     }
 
     pub fn kind(&self) -> Kind
-        ensures { result ≡ self.now.registers.kind }
+        ensures { result ≡ self.now.registers.setup.kind }
     {
-        self.registers.kind
+        self.registers.setup.kind
     }
 
     pub fn reset(&mut self)
         ensures registers { self.new.registers ≡ reset self.old.registers }
         ensures memory { self.new.memory ≡ self.old.memory }
     {
-        let Registers {
-            kind,
-            converter,
-            mutes,
-            ..
-        } = self.registers;
-        self.registers = Registers::new(kind, converter, mutes);
+        self.registers = Registers::new(self.registers.setup);
     }
 
     // What each voice contributed in the last granted tick.
@@ -75,24 +57,38 @@ impl<M> Chip<M> {
 }
 
 impl<M: Source> Chip<M> {
+    fn check_size(&self) -> Result<(), Refusal>
+        ensures { result ≡ sized (M.bytes self.now.memory) (Ok tt) }
+    {
+        if self.memory.size() == MEMORY_SIZE {
+            Ok(())
+        } else {
+            Err(Refusal::MemorySize)
+        }
+    }
+
+    // Where a host address leads, over a memory of the right size.
+    fn target(&self, address: u16) -> Result<Target, Refusal>
+        ensures { result ≡ sized (M.bytes self.now.memory) (target address) }
+    {
+        self.check_size().and_then(|()| Target::try_from(address))
+    }
+
     // A host's read.
     pub fn read(&self, address: u16) -> Result<u8, Refusal>
         ensures { result ≡ read (M.bytes self.now.memory) self.now.registers address }
     {
-        check_port(&self.memory, address)?;
-        if address < WINDOW_START {
-            return match self.registers.kind {
-                Kind::Rf5c164 if address >= POSITIONS_START && address < POSITIONS_END => Ok(
-                    self.registers.position_byte(address - POSITIONS_START),
-                ),
-                _ => Err(Refusal::NothingThere),
-            };
+        match self.target(address)? {
+            Target::Position(index) if self.registers.setup.kind == Kind::Rf5c164 => {
+                Ok(self.registers.position_byte(index))
+            }
+            Target::Register(_) | Target::Position(_) => Err(Refusal::NothingThere),
+            Target::Window(_) if self.registers.control.on => Err(Refusal::Sounding),
+            Target::Window(offset) => {
+                let place = self.registers.control.place_behind(offset);
+                Ok(self.memory.read(place as usize)?)
+            }
         }
-        if self.registers.control.on {
-            return Err(Refusal::Sounding);
-        }
-        let byte = self.memory.read(self.registers.control.place_behind(address - WINDOW_START))?;
-        Ok(byte)
     }
 
     // Fills a buffer through the window, from an offset on, also while sounding.
@@ -105,8 +101,8 @@ impl<M: Source> Chip<M> {
             (inspect (M.bytes self.old.memory) self.old.registers offset (length buffer.old)) }
         ensures same { self.new ≡ self.old }
     {
-        check_size(&self.memory)?;
-        if buffer.len() > WINDOW_SIZE || usize::from(offset) + buffer.len() > WINDOW_SIZE {
+        self.check_size()?;
+        if usize::from(offset) + buffer.len() > usize::from(WINDOW_SIZE) {
             return Err(Refusal::PastWindow);
         }
         let quiet = Quiet::new(&mut self.registers.control);
@@ -124,9 +120,9 @@ impl<M: Source> Chip<M> {
             ≡ filled frame.old (tick (M.bytes self.old.memory) self.old.registers) }
         ensures ranged { result ≡ Ok tt → Ranged frame.new }
     {
-        check_size(&self.memory)?;
+        self.check_size()?;
         self.registers.tick(&self.memory);
-        *frame = Frame::new(&self.registers.voices, self.registers.converter);
+        *frame = Frame::new(&self.registers.voices, self.registers.setup.converter);
         Ok(())
     }
 }
@@ -138,47 +134,24 @@ impl<M: Store> Chip<M> {
         ensures after { state M.bytes M.takes self.new
             ≡ kept (state M.bytes M.takes self.old) (write (state M.bytes M.takes self.old) address byte) }
     {
-        check_port(&self.memory, address)?;
-        if address < WINDOW_START {
-            if address > LAST_REGISTER {
-                return Err(Refusal::NothingThere);
+        match self.target(address)? {
+            Target::Register(register) => self.registers.write(register, byte),
+            Target::Position(_) => return Err(Refusal::NothingThere),
+            Target::Window(offset) => {
+                self.memory
+                    .write(self.registers.control.place_behind(offset) as usize, byte)?;
             }
-            self.registers.write(address, byte);
-            return Ok(());
         }
-        let place = self.registers.control.place_behind(address - WINDOW_START);
-        self.memory.write(place, byte)?;
         Ok(())
     }
 }
 
 // Fills a buffer with the bytes of a memory from a place on.
-fn show<S: Source>(memory: &S, place: usize, buffer: &mut [u8])
-    requires { (place < 2 ^ 32) × (length buffer.old ≤ 4096) }
+#[tactic(auto, using(crate::proofs::Shown::shown_all))]
+fn show<S: Source>(memory: &S, place: u32, buffer: &mut [u8])
     ensures { buffer.new ≡ shown (S.bytes memory.now) place (length buffer.old) }
 {
     for (i, byte) in buffer.iter_mut().enumerate() {
-        *byte = byte_at(memory, place + i);
-    }
-}
-
-fn check_size<S: Source>(memory: &S) -> Result<(), Refusal>
-    ensures { result ≡ sized (S.bytes memory.now) (Ok tt) }
-{
-    if memory.size() == MEMORY_SIZE {
-        Ok(())
-    } else {
-        Err(Refusal::MemorySize)
-    }
-}
-
-fn check_port<S: Source>(memory: &S, address: u16) -> Result<(), Refusal>
-    ensures { result ≡ sized (S.bytes memory.now) (port address (Ok tt) (Ok tt)) }
-{
-    check_size(memory)?;
-    if address > LAST_ADDRESS {
-        Err(Refusal::BeyondPort)
-    } else {
-        Ok(())
+        *byte = byte_at(memory, place as usize + i);
     }
 }

@@ -1,11 +1,11 @@
 // The control record, and the guard that keeps it silent for a while.
-ghost use Rattle.std.specs.Prelude.{◌≡◌, ◌^◌, ◌<◌, false};
+ghost use Rattle.std.specs.Prelude.{◌≡◌, false};
 ghost use Rattle.chip.specs.Control.{bit, controlled, switched, place_behind};
 
 // How many places the window shows.
-pub(crate) const WINDOW_SIZE: usize = 4_096;
+pub(crate) const WINDOW_SIZE: u16 = 4_096;
 
-#[derive(Clone, Copy)]
+#[derive(Clone, Copy, PartialEq, Eq, Debug, Default)]
 pub struct Control {
     // whether the chip sounds
     pub on: bool,
@@ -17,11 +17,10 @@ pub struct Control {
 
 impl Control {
     // The memory place behind a window offset.
-    pub fn place_behind(self, offset: u16) -> usize
-        ensures exact { result ≡ place_behind self offset }
-        ensures bound { result < 2 ^ 32 }
+    pub fn place_behind(self, offset: u16) -> u32
+        ensures { result ≡ place_behind self offset }
     {
-        usize::from(self.bank) * WINDOW_SIZE + usize::from(offset)
+        u32::from(self.bank) * u32::from(WINDOW_SIZE) + u32::from(offset)
     }
 
     // Takes a control byte.
@@ -38,6 +37,7 @@ impl Control {
 }
 
 // Bit `k` of a byte.
+#[tactic(auto, using(crate::proofs::Bit::bit_past))]
 pub(crate) fn bit(byte: u8, k: usize) -> bool
     ensures { result ≡ bit byte k }
 {
@@ -62,9 +62,8 @@ impl<'a> Quiet<'a> {
     }
 
     // The memory place behind a window offset meanwhile.
-    pub fn place_behind(&self, offset: u16) -> usize
-        ensures exact { result ≡ place_behind self.now.control.now offset }
-        ensures bound { result < 2 ^ 32 }
+    pub fn place_behind(&self, offset: u16) -> u32
+        ensures { result ≡ place_behind self.now.control.now offset }
     {
         self.control.place_behind(offset)
     }

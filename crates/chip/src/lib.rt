@@ -3,5 +3,6 @@
 
 pub mod chip;
 pub mod control;
+pub mod port;
 pub mod refusal;
 pub mod registers;

@@ -22,6 +22,7 @@ pub enum Refusal {
 }
 
 impl Refusal {
+    // A case that holds another refusal has no number of its own, so these are no discriminants.
     pub fn number(self) -> u8
         ensures { result ≡ number self }
     {

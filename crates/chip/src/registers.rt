@@ -1,8 +1,8 @@
 // All that a chip holds beside its memory.
-ghost use Rattle.std.specs.Prelude.{◌≡◌, map, slice_index_or};
+ghost use Rattle.std.specs.Prelude.{◌≡◌, slice_index_or};
 ghost use Rattle.voice.specs.Voice.{fresh};
 ghost use Rattle.voice.specs.Frame.{AllBounded};
-ghost use Rattle.chip.specs.Registers.{made, with_byte, edited, chosen, registered, position_byte, sounds, voices_after, ticked, latest};
+ghost use Rattle.chip.specs.Registers.{made, with_byte, edited, chosen, registered, position_byte, sounds, ticked, latest};
 
 use crate::control::{Control, bit};
 use kind::Kind;
@@ -10,12 +10,18 @@ use voice::frame::Converter;
 use voice::voice::{Contribution, Settings, Voice};
 use wave::memory::Source;
 
-#[derive(Clone, Copy)]
-pub struct Registers {
+// How a chip is made.
+#[derive(Clone, Copy, PartialEq, Eq, Debug)]
+pub struct Setup {
     pub kind: Kind,
     pub converter: Converter,
     // the voices that never sound: bit 0 is voice 1
     pub mutes: u8,
+}
+
+#[derive(Clone, Copy, PartialEq, Eq, Debug)]
+pub struct Registers {
+    pub setup: Setup,
     pub control: Control,
     // the channel register: a clear bit switches its voice on
     pub channel: u8,
@@ -23,89 +29,66 @@ pub struct Registers {
 }
 
 impl Registers {
-    pub fn new(kind: Kind, converter: Converter, mutes: u8) -> Registers
-        ensures { result ≡ made kind converter mutes }
+    pub fn new(setup: Setup) -> Registers
+        ensures { result ≡ made setup }
     {
-        let control = Control {
-            on: false,
-            bank: 0,
-            selected: 0,
-        };
         Registers {
-            kind,
-            converter,
-            mutes,
-            control,
+            setup,
+            control: Control::default(),
             channel: 0xFF,
             voices: [Voice::new(); 8],
         }
     }
 
-    // Takes a byte for one of the addresses 0 to 8.
+    // Takes a byte for one of the addresses 0 to 8. An address stays the number that a host and a log give: a type of the
+    // nine registers alone would ask more of callers.
     pub fn write(&mut self, address: u16, byte: u8)
         ensures { self.new ≡ registered self.old address byte }
     {
         match address {
             0..=6 => write_voice(&mut self.voices, self.control.selected, address, byte),
             7 => self.control.set(byte),
-            8 => self.channel = byte | self.mutes,
+            8 => self.channel = byte | self.setup.mutes,
             _ => {}
         }
     }
 
-    // A byte of the position registers: two to a voice, the low one first.
+    // A byte of the position registers: two to a voice, the low one first; past the last voice, those of a new one.
     pub fn position_byte(&self, index: u16) -> u8
         ensures { result ≡ position_byte self.now.voices index }
     {
-        let place = voice_at(&self.voices, usize::from(index / 2)).place();
-        if index % 2 == 0 {
-            (place % 256) as u8
-        } else {
-            (place / 256) as u8
-        }
+        let voice = self.voices.get(usize::from(index / 2)).copied();
+        let [low, high] = voice.unwrap_or_default().place().to_le_bytes();
+        if index % 2 == 0 { low } else { high }
     }
 
     // One tick over a memory.
+    #[tactic(auto, using(crate::proofs::Each::each_from))]
     pub fn tick<S: Source>(&mut self, memory: &S)
         ensures exact { self.new ≡ ticked (S.bytes memory.now) self.old }
         ensures bounded { AllBounded self.new.voices }
     {
-        tick_voices(&mut self.voices, memory, self.control.on, self.channel);
+        for (k, voice) in self.voices.iter_mut().enumerate() {
+            voice.tick(memory, sounds(self.control.on, self.channel, k));
+        }
     }
 
     // What each voice contributed in the last tick.
     pub fn latest(&self) -> [Contribution; 8]
         ensures { result ≡ latest self.now }
     {
-        latest_of(&self.voices)
+        self.voices.map(|voice| voice.latest)
     }
 }
 
-fn latest_of(voices: &[Voice; 8]) -> [Contribution; 8]
-    ensures { result ≡ map (λ v. v.latest) voices.now }
-{
-    let mut list = [Contribution { left: 0, right: 0 }; 8];
-    for k in 0..8usize {
-        list[k] = voices[k].latest;
-    }
-    list
-}
-
-// A voice by its number, from 0; past the last, a new one.
-fn voice_at(voices: &[Voice; 8], k: usize) -> Voice
-    ensures { result ≡ slice_index_or voices.now k fresh }
-{
-    if k < 8 { voices[k] } else { Voice::new() }
-}
-
+#[tactic(auto, using(crate::proofs::Each::one_set, crate::proofs::Each::one_past))]
 fn write_voice(voices: &mut [Voice; 8], selected: u8, address: u16, byte: u8)
     ensures { voices.new ≡ chosen selected (edited address byte) voices.old }
 {
+    // an index: after `get_mut` a proof knows no voice of the array
     let k = usize::from(selected);
-    if k < 8 {
-        let mut voice = voices[k];
-        write_settings(&mut voice.settings, address, byte);
-        voices[k] = voice;
+    if k < voices.len() {
+        write_settings(&mut voices[k].settings, address, byte);
     }
 }
 
@@ -121,17 +104,6 @@ fn write_settings(settings: &mut Settings, address: u16, byte: u8)
         5 => settings.lsh = byte,
         6 => settings.st = byte,
         _ => {}
-    }
-}
-
-fn tick_voices<S: Source>(voices: &mut [Voice; 8], memory: &S, on: bool, channel: u8)
-    ensures exact { voices.new ≡ voices_after (S.bytes memory.now) on channel voices.old }
-    ensures bounded { AllBounded voices.new }
-{
-    for k in 0..8usize {
-        let mut voice = voices[k];
-        voice.tick(memory, sounds(on, channel, k));
-        voices[k] = voice;
     }
 }
 

@@ -1,13 +1,12 @@
 // Inspections of the window.
-use crate::rig::Answer::{Byte, Done, Refused, Totals};
-use crate::rig::Call::{Read, Tick, Write};
-use crate::rig::{Answer, MEMORY_SIZE, PAST_WINDOW, SOUNDING, check_alike, check_calls, write_all};
+use crate::rig::Seen::{Byte, Done, Totals};
+use crate::rig::{Answer, RF5C68A, check_alike, check_calls, write_all};
+use calls::Call::{Read, Tick, Write};
 use chip::chip::Chip;
-use kind::Kind;
+use chip::refusal::Refusal;
 use std::alloc::Global;
 use std::process::Abort;
 use std::test::Fail;
-use voice::frame::Converter;
 use wave::memory::Store;
 use wave::ram::Ram;
 
@@ -15,7 +14,7 @@ use wave::ram::Ram;
 fn while_sounding(rt: HostRuntime) -> Result<(), Fail> {
     let mut bytes = vec![in rt.alloc(); 0xC0u8; 65_536]?;
     let ram = Ram::new(bytes.as_mut_slice());
-    let mut chip = Chip::new(ram, Kind::Rf5c68a, Converter::Bits16, 0);
+    let mut chip = Chip::new(ram, RF5C68A);
     let samples = [(7, 0x82), (0x1010, 1), (0x1011, 2), (0x1012, 3)];
     write_all(&mut chip, &samples)?;
     write_all(&mut chip, &[(0, 128), (1, 0x12), (8, 0xFE)])?;
@@ -23,10 +22,10 @@ fn while_sounding(rt: HostRuntime) -> Result<(), Fail> {
     assert_eq!(rt; chip.inspect(0x10, &mut buffer), Ok(()));
     assert_eq!(rt; buffer, [1, 2, 3, 0xC0]);
     let calls = [
-        (Read(0x1010), SOUNDING),
-        (Tick, Totals(512, 256)),
-        (Write(7, 0x02), Done),
-        (Read(0x1010), Byte(1)),
+        (Read(0x1010), Err(Refusal::Sounding)),
+        (Tick, Ok(Totals(512, 256))),
+        (Write(7, 0x02), Ok(Done)),
+        (Read(0x1010), Ok(Byte(1))),
     ];
     check_calls(&rt, &mut chip, &calls);
     Ok(())
@@ -38,13 +37,9 @@ fn check_inspection<M: Store>(
     chip: &mut Chip<M>,
     offset: u16,
     buffer: &mut [u8],
-    (answer, byte): (Answer, u8),
+    (answer, byte): (Result<(), Refusal>, u8),
 ) {
-    let given = match chip.inspect(offset, buffer) {
-        Ok(()) => Done,
-        Err(refusal) => Refused(refusal),
-    };
-    assert_eq!(rt; given, answer);
+    assert_eq!(rt; chip.inspect(offset, buffer), answer);
     for each in buffer.iter() {
         assert_eq!(rt; *each, byte);
     }
@@ -54,23 +49,23 @@ fn check_inspection<M: Store>(
 fn of_one_bank_alone(rt: HostRuntime) -> Result<(), Fail> {
     let mut bytes = vec![in rt.alloc(); 0u8; 65_536]?;
     let ram = Ram::new(bytes.as_mut_slice());
-    let mut chip = Chip::new(ram, Kind::Rf5c68a, Converter::Bits16, 0);
+    let mut chip = Chip::new(ram, RF5C68A);
     write_all(&mut chip, &[(7, 3), (0x1FFE, 0xAB), (0x1FFF, 0xAB)])?;
     for bank in 0..16u8 {
         write_all(&mut chip, &[(7, bank)])?;
         let shown = if bank == 3 { 0xAB } else { 0 };
-        check_inspection(&rt, &mut chip, 4_094, &mut [0x55; 2], (Done, shown));
+        check_inspection(&rt, &mut chip, 4_094, &mut [0x55; 2], (Ok(()), shown));
     }
     Ok(())
 }
 
 // Over bytes 40H, with a buffer of bytes 55H.
-const FILLED: (Answer, u8) = (Done, 0x40);
+const FILLED: (Result<(), Refusal>, u8) = (Ok(()), 0x40);
 
-const LEFT: (Answer, u8) = (PAST_WINDOW, 0x55);
+const LEFT: (Result<(), Refusal>, u8) = (Err(Refusal::PastWindow), 0x55);
 
 // An offset, a length, and the outcome.
-const REACHES: [(u16, usize, (Answer, u8)); 12] = [
+const REACHES: [(u16, usize, (Result<(), Refusal>, u8)); 12] = [
     (0, 0, FILLED),
     (0, 4_096, FILLED),
     (0, 4_097, LEFT),
@@ -104,8 +99,8 @@ fn check_reaches<M: Store>(
 fn each_reach(rt: HostRuntime) -> Result<(), Fail> {
     let mut bytes = vec![in rt.alloc(); 0x40u8; 65_536]?;
     let ram = Ram::new(bytes.as_mut_slice());
-    let mut chip = Chip::new(ram, Kind::Rf5c68a, Converter::Bits16, 0);
-    for (control, read) in [(0x8F, SOUNDING), (0x0F, Byte(0x40))] {
+    let mut chip = Chip::new(ram, RF5C68A);
+    for (control, read) in [(0x8F, Err(Refusal::Sounding)), (0x0F, Ok(Byte(0x40)))] {
         write_all(&mut chip, &[(7, control)])?;
         check_reaches(&rt, rt.alloc(), &mut chip, read)?;
     }
@@ -117,9 +112,15 @@ fn over_a_memory_of_another_size(rt: HostRuntime) -> Result<(), Fail> {
     for size in [0, 65_535, 65_537] {
         let mut bytes = vec![in rt.alloc(); 0x40u8; size]?;
         let ram = Ram::new(bytes.as_mut_slice());
-        let mut chip = Chip::new(ram, Kind::Rf5c68a, Converter::Bits16, 0);
+        let mut chip = Chip::new(ram, RF5C68A);
         for offset in [0, 4_095, 4_096, 0xFFFF] {
-            check_inspection(&rt, &mut chip, offset, &mut [0x55; 2], (MEMORY_SIZE, 0x55));
+            check_inspection(
+                &rt,
+                &mut chip,
+                offset,
+                &mut [0x55; 2],
+                (Err(Refusal::MemorySize), 0x55),
+            );
         }
     }
     Ok(())

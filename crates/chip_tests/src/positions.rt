@@ -1,24 +1,25 @@
 // The position registers of an RF5C164.
-use crate::rig::Answer::{Byte, Done, Totals};
-use crate::rig::Call::{Read, Tick, Write};
-use crate::rig::{check_calls, write_all};
+use crate::rig::Seen::{Byte, Done, Totals};
+use crate::rig::{RF5C164, check_calls, write_all};
+use calls::Call::{Read, Tick, Write};
 use chip::chip::Chip;
-use kind::Kind;
 use std::test::Fail;
-use voice::frame::Converter;
 use wave::ram::Ram;
 
 #[test]
 fn starts_at_rest(rt: HostRuntime) -> Result<(), Fail> {
     let mut bytes = vec![in rt.alloc(); 0u8; 65_536]?;
     let ram = Ram::new(bytes.as_mut_slice());
-    let mut chip = Chip::new(ram, Kind::Rf5c164, Converter::Bits16, 0);
+    let mut chip = Chip::new(ram, RF5C164);
     for voice in 0..8u8 {
         write_all(&mut chip, &[(7, voice | 0x40), (6, voice | 0x10)])?;
     }
     for voice in 0..8u8 {
         let low = u16::from(voice) * 2 + 0x10;
-        let calls = [(Read(low), Byte(0)), (Read(low + 1), Byte(voice | 0x10))];
+        let calls = [
+            (Read(low), Ok(Byte(0))),
+            (Read(low + 1), Ok(Byte(voice | 0x10))),
+        ];
         check_calls(&rt, &mut chip, &calls);
     }
     Ok(())
@@ -28,14 +29,14 @@ fn starts_at_rest(rt: HostRuntime) -> Result<(), Fail> {
 fn three_places_a_tick(rt: HostRuntime) -> Result<(), Fail> {
     let mut bytes = vec![in rt.alloc(); 0u8; 65_536]?;
     let ram = Ram::new(bytes.as_mut_slice());
-    let mut chip = Chip::new(ram, Kind::Rf5c164, Converter::Bits16, 0);
+    let mut chip = Chip::new(ram, RF5C164);
     write_all(&mut chip, &[(7, 0xC2), (6, 0x12), (3, 0x18), (8, 0xFB)])?;
     for low in [0x00, 0x03, 0x06, 0x09] {
         let calls = [
-            (Tick, Totals(0, 0)),
-            (Read(0x14), Byte(low)),
-            (Read(0x15), Byte(0x12)),
-            (Read(0x16), Byte(0)),
+            (Tick, Ok(Totals(0, 0))),
+            (Read(0x14), Ok(Byte(low))),
+            (Read(0x15), Ok(Byte(0x12))),
+            (Read(0x16), Ok(Byte(0))),
         ];
         check_calls(&rt, &mut chip, &calls);
     }
@@ -46,10 +47,10 @@ fn three_places_a_tick(rt: HostRuntime) -> Result<(), Fail> {
 fn parts_of_a_place(rt: HostRuntime) -> Result<(), Fail> {
     let mut bytes = vec![in rt.alloc(); 0u8; 65_536]?;
     let ram = Ram::new(bytes.as_mut_slice());
-    let mut chip = Chip::new(ram, Kind::Rf5c164, Converter::Bits16, 0);
+    let mut chip = Chip::new(ram, RF5C164);
     write_all(&mut chip, &[(3, 0x05), (2, 0x56), (8, 0xFE), (7, 0x80)])?;
     for low in [0, 0, 1, 2, 2, 3, 4] {
-        let calls = [(Tick, Totals(0, 0)), (Read(0x10), Byte(low))];
+        let calls = [(Tick, Ok(Totals(0, 0))), (Read(0x10), Ok(Byte(low)))];
         check_calls(&rt, &mut chip, &calls);
     }
     Ok(())
@@ -60,16 +61,16 @@ fn parts_of_a_place(rt: HostRuntime) -> Result<(), Fail> {
 fn round_the_end(rt: HostRuntime) -> Result<(), Fail> {
     let mut bytes = vec![in rt.alloc(); 0u8; 65_536]?;
     let ram = Ram::new(bytes.as_mut_slice());
-    let mut chip = Chip::new(ram, Kind::Rf5c164, Converter::Bits16, 0);
+    let mut chip = Chip::new(ram, RF5C164);
     let settings = [(6, 0xFF), (3, 0xFF), (2, 0xFF), (8, 0xFE), (7, 0x80)];
     write_all(&mut chip, &settings)?;
-    check_calls(&rt, &mut chip, &[(Tick, Totals(0, 0)); 9]);
+    check_calls(&rt, &mut chip, &[(Tick, Ok(Totals(0, 0))); 9]);
     let calls = [
-        (Read(0x10), Byte(0xFF)),
-        (Read(0x11), Byte(0xFF)),
-        (Tick, Totals(0, 0)),
-        (Read(0x10), Byte(0x1F)),
-        (Read(0x11), Byte(0)),
+        (Read(0x10), Ok(Byte(0xFF))),
+        (Read(0x11), Ok(Byte(0xFF))),
+        (Tick, Ok(Totals(0, 0))),
+        (Read(0x10), Ok(Byte(0x1F))),
+        (Read(0x11), Ok(Byte(0))),
     ];
     check_calls(&rt, &mut chip, &calls);
     Ok(())

@@ -1,15 +1,15 @@
 // What the host port refuses, and which refusal goes before which.
-use crate::rig::Call::{Read, Tick, Write};
+use crate::rig::Seen::{Byte, Done};
 use crate::rig::{
-    Answer, BEYOND_PORT, MEMORY_SIZE, NOTHING_THERE, READ_ONLY, SOUNDING, UNFILLED, check_alike,
-    check_calls, check_contributions, perform,
+    Answer, READ_ONLY, RF5C68A, RF5C164, SILENT, UNFILLED, check_alike, check_calls, perform,
 };
+use calls::Call;
+use calls::Call::{Read, Tick, Write};
 use chip::chip::Chip;
 use chip::refusal::Refusal;
-use kind::Kind;
+use std::ops::Range;
 use std::process::Abort;
 use std::test::Fail;
-use voice::frame::Converter;
 use wave::board::Board;
 use wave::memory::{Refusal as MemoryRefusal, Store};
 use wave::ram::Ram;
@@ -20,7 +20,7 @@ fn memory_of_another_size(rt: HostRuntime) -> Result<(), Fail> {
     for size in [0, 65_535, 65_537] {
         let mut bytes = vec![in rt.alloc(); 0u8; size]?;
         let ram = Ram::new(bytes.as_mut_slice());
-        let mut chip = Chip::new(ram, Kind::Rf5c164, Converter::Bits16, 0);
+        let mut chip = Chip::new(ram, RF5C164);
         let calls = [
             Write(0, 1),
             Write(9, 1),
@@ -32,7 +32,7 @@ fn memory_of_another_size(rt: HostRuntime) -> Result<(), Fail> {
             Read(0xFFFF),
             Tick,
         ];
-        check_alike(&rt, &mut chip, &calls, MEMORY_SIZE);
+        check_alike(&rt, &mut chip, &calls, Err(Refusal::MemorySize));
     }
     Ok(())
 }
@@ -41,14 +41,11 @@ fn memory_of_another_size(rt: HostRuntime) -> Result<(), Fail> {
 fn refused_tick(rt: HostRuntime) -> Result<(), Fail> {
     let mut bytes = vec![in rt.alloc(); 0xC0u8; 65_535]?;
     let ram = Ram::new(bytes.as_mut_slice());
-    let mut chip = Chip::new(ram, Kind::Rf5c68a, Converter::Bits16, 0);
+    let mut chip = Chip::new(ram, RF5C68A);
     let mut frame = UNFILLED;
     assert_eq!(rt; chip.tick(&mut frame), Err(Refusal::MemorySize));
-    assert_eq!(rt; frame.left.contributions, UNFILLED.left.contributions);
-    assert_eq!(rt; frame.right.contributions, UNFILLED.right.contributions);
-    assert_eq!(rt; (frame.left.total, frame.left.word), (17, 19));
-    assert_eq!(rt; (frame.right.total, frame.right.word), (37, 39));
-    check_contributions(&rt, &chip.contributions(), [0; 8], [0; 8]);
+    assert_eq!(rt; frame, UNFILLED);
+    assert_eq!(rt; chip.contributions(), SILENT);
     Ok(())
 }
 
@@ -56,48 +53,51 @@ fn refused_tick(rt: HostRuntime) -> Result<(), Fail> {
 fn beyond_the_port(rt: HostRuntime) -> Result<(), Fail> {
     let mut bytes = vec![in rt.alloc(); 0u8; 65_536]?;
     let ram = Ram::new(bytes.as_mut_slice());
-    let mut chip = Chip::new(ram, Kind::Rf5c164, Converter::Bits16, 0);
+    let mut chip = Chip::new(ram, RF5C164);
     for control in [0x00, 0x80] {
-        check_alike(&rt, &mut chip, &[Write(7, control)], Answer::Done);
+        check_alike(&rt, &mut chip, &[Write(7, control)], Ok(Done));
         let calls = [
             Write(0x2000, 1),
             Write(0xFFFF, 1),
             Read(0x2000),
             Read(0xFFFF),
         ];
-        check_alike(&rt, &mut chip, &calls, BEYOND_PORT);
+        check_alike(&rt, &mut chip, &calls, Err(Refusal::BeyondPort));
     }
     Ok(())
 }
 
-// Writes to the addresses from one on, before another.
-fn check_writes<M: Store>(
+// A call at each of some addresses.
+fn check_each<M: Store, F: Fn(u16) -> Call>(
     rt: &impl Abort,
     chip: &mut Chip<M>,
-    from: u16,
-    end: u16,
+    addresses: Range<u16>,
+    call: F,
     answer: Answer,
-) {
-    for address in from..end {
-        assert_eq!(rt; perform(chip, Write(address, 0x80)), answer, "{}", address);
-    }
-}
-
-fn check_reads<M: Store>(rt: &impl Abort, chip: &mut Chip<M>, from: u16, end: u16, answer: Answer) {
-    for address in from..end {
-        assert_eq!(rt; perform(chip, Read(address)), answer, "{}", address);
+)
+    requires { F.IsAlwaysCallable call }
+{
+    for address in addresses {
+        assert_eq!(rt; perform(chip, call(address)), answer, "{}", address);
     }
 }
 
 #[test]
 fn nothing_there(rt: HostRuntime) -> Result<(), Fail> {
     let mut bytes = vec![in rt.alloc(); 0u8; 65_536]?;
-    for kind in [Kind::Rf5c68a, Kind::Rf5c164] {
+    for setup in [RF5C68A, RF5C164] {
         let ram = Ram::new(bytes.as_mut_slice());
-        let mut chip = Chip::new(ram, kind, Converter::Bits16, 0);
-        check_writes(&rt, &mut chip, 0x9, 0x1000, NOTHING_THERE);
-        check_reads(&rt, &mut chip, 0x0, 0x10, NOTHING_THERE);
-        check_reads(&rt, &mut chip, 0x20, 0x1000, NOTHING_THERE);
+        let mut chip = Chip::new(ram, setup);
+        let nothing = Err(Refusal::NothingThere);
+        check_each(
+            &rt,
+            &mut chip,
+            0x9..0x1000,
+            |address| Write(address, 0x80),
+            nothing,
+        );
+        check_each(&rt, &mut chip, 0x0..0x10, Read, nothing);
+        check_each(&rt, &mut chip, 0x20..0x1000, Read, nothing);
     }
     Ok(())
 }
@@ -105,13 +105,13 @@ fn nothing_there(rt: HostRuntime) -> Result<(), Fail> {
 #[test]
 fn positions_of_one_kind_alone(rt: HostRuntime) -> Result<(), Fail> {
     let mut bytes = vec![in rt.alloc(); 0u8; 65_536]?;
-    for (kind, answer) in [
-        (Kind::Rf5c68a, NOTHING_THERE),
-        (Kind::Rf5c164, Answer::Byte(0)),
+    for (setup, answer) in [
+        (RF5C68A, Err(Refusal::NothingThere)),
+        (RF5C164, Ok(Byte(0))),
     ] {
         let ram = Ram::new(bytes.as_mut_slice());
-        let mut chip = Chip::new(ram, kind, Converter::Bits16, 0);
-        check_reads(&rt, &mut chip, 0x10, 0x20, answer);
+        let mut chip = Chip::new(ram, setup);
+        check_each(&rt, &mut chip, 0x10..0x20, Read, answer);
     }
     Ok(())
 }
@@ -120,21 +120,21 @@ fn positions_of_one_kind_alone(rt: HostRuntime) -> Result<(), Fail> {
 fn while_sounding(rt: HostRuntime) -> Result<(), Fail> {
     let mut bytes = vec![in rt.alloc(); 0x40u8; 65_536]?;
     let ram = Ram::new(bytes.as_mut_slice());
-    let mut chip = Chip::new(ram, Kind::Rf5c164, Converter::Bits16, 0);
+    let mut chip = Chip::new(ram, RF5C164);
     check_calls(
         &rt,
         &mut chip,
         &[
-            (Read(0x1000), Answer::Byte(0x40)),
-            (Write(7, 0x80), Answer::Done),
-            (Read(0x1000), SOUNDING),
-            (Read(0x1FFF), SOUNDING),
-            (Read(8), NOTHING_THERE),
-            (Read(0x20), NOTHING_THERE),
-            (Read(0x10), Answer::Byte(0)),
-            (Write(0x1000, 0x41), Answer::Done),
-            (Write(7, 0x00), Answer::Done),
-            (Read(0x1000), Answer::Byte(0x41)),
+            (Read(0x1000), Ok(Byte(0x40))),
+            (Write(7, 0x80), Ok(Done)),
+            (Read(0x1000), Err(Refusal::Sounding)),
+            (Read(0x1FFF), Err(Refusal::Sounding)),
+            (Read(8), Err(Refusal::NothingThere)),
+            (Read(0x20), Err(Refusal::NothingThere)),
+            (Read(0x10), Ok(Byte(0))),
+            (Write(0x1000, 0x41), Ok(Done)),
+            (Write(7, 0x00), Ok(Done)),
+            (Read(0x1000), Ok(Byte(0x41))),
         ],
     );
     Ok(())
@@ -148,19 +148,19 @@ fn rom_behind_the_window(rt: HostRuntime) -> Result<(), Fail> {
         first: Rom::new(rom.as_slice()),
         second: Ram::new(ram.as_mut_slice()),
     };
-    let mut chip = Chip::new(board, Kind::Rf5c68a, Converter::Bits16, 0);
+    let mut chip = Chip::new(board, RF5C68A);
     let calls = [
         (Write(0x1000, 9), READ_ONLY),
-        (Write(7, 0x87), Answer::Done),
+        (Write(7, 0x87), Ok(Done)),
         (Write(0x1FFF, 9), READ_ONLY),
-        (Read(0x1FFF), SOUNDING),
-        (Write(7, 0x88), Answer::Done),
-        (Write(0x1000, 9), Answer::Done),
-        (Write(7, 0x08), Answer::Done),
-        (Read(0x1000), Answer::Byte(9)),
-        (Read(0x1001), Answer::Byte(0x22)),
-        (Write(7, 0x07), Answer::Done),
-        (Read(0x1FFF), Answer::Byte(0x11)),
+        (Read(0x1FFF), Err(Refusal::Sounding)),
+        (Write(7, 0x88), Ok(Done)),
+        (Write(0x1000, 9), Ok(Done)),
+        (Write(7, 0x08), Ok(Done)),
+        (Read(0x1000), Ok(Byte(9))),
+        (Read(0x1001), Ok(Byte(0x22))),
+        (Write(7, 0x07), Ok(Done)),
+        (Read(0x1FFF), Ok(Byte(0x11))),
     ];
     check_calls(&rt, &mut chip, &calls);
     Ok(())

@@ -1,12 +1,14 @@
 // New chips, and what a reset keeps and what it does not.
-use crate::rig::Answer::{Byte, Done, Totals};
-use crate::rig::Call::{Read, Reset, Tick, Write};
-use crate::rig::{Answer, Call, check_calls, check_contributions, next_frame, write_all};
+use crate::rig::Seen::{Byte, Done, Totals};
+use crate::rig::{Answer, RF5C164, SILENT, check_calls, next_frame, write_all};
+use calls::Call;
+use calls::Call::{Read, Reset, Tick, Write};
 use chip::chip::Chip;
-use kind::Kind;
+use chip::registers::Setup;
 use std::process::Abort;
 use std::test::Fail;
 use voice::frame::Converter;
+use voice::voice::Contribution;
 use wave::memory::Store;
 use wave::ram::Ram;
 
@@ -17,30 +19,30 @@ fn sound<M: Store>(rt: &impl Abort, chip: &mut Chip<M>) -> Result<(), Fail> {
     for select in [0xC0, 0xC1] {
         write_all(chip, &[(7, select), (0, 128), (1, 0x12), (3, 0x08), (6, 2)])?;
     }
-    let calls = [(Write(8, 0), Done), (Tick, Totals(512, 256))];
+    let calls = [(Write(8, 0), Ok(Done)), (Tick, Ok(Totals(512, 256)))];
     check_calls(rt, chip, &calls);
     Ok(())
 }
 
 // Bank 0, no starts, voice 1 selected, and every voice switched off.
 const AS_NEW: [(Call, Answer); 9] = [
-    (Read(0x1000), Byte(0xC0)),
-    (Read(0x11), Byte(0)),
-    (Read(0x13), Byte(0)),
-    (Write(6, 3), Done),
-    (Read(0x11), Byte(3)),
-    (Write(7, 0xC1), Done),
-    (Write(0, 128), Done),
-    (Write(1, 0x12), Done),
-    (Tick, Totals(0, 0)),
+    (Read(0x1000), Ok(Byte(0xC0))),
+    (Read(0x11), Ok(Byte(0))),
+    (Read(0x13), Ok(Byte(0))),
+    (Write(6, 3), Ok(Done)),
+    (Read(0x11), Ok(Byte(3))),
+    (Write(7, 0xC1), Ok(Done)),
+    (Write(0, 128), Ok(Done)),
+    (Write(1, 0x12), Ok(Done)),
+    (Tick, Ok(Totals(0, 0))),
 ];
 
 #[test]
 fn new_chip(rt: HostRuntime) -> Result<(), Fail> {
     let mut bytes = vec![in rt.alloc(); 0xC0u8; 65_536]?;
     let ram = Ram::new(bytes.as_mut_slice());
-    let mut chip = Chip::new(ram, Kind::Rf5c164, Converter::Bits16, 0);
-    check_contributions(&rt, &chip.contributions(), [0; 8], [0; 8]);
+    let mut chip = Chip::new(ram, RF5C164);
+    assert_eq!(rt; chip.contributions(), SILENT);
     check_calls(&rt, &mut chip, &AS_NEW);
     Ok(())
 }
@@ -49,16 +51,23 @@ fn new_chip(rt: HostRuntime) -> Result<(), Fail> {
 fn registers_as_new(rt: HostRuntime) -> Result<(), Fail> {
     let mut bytes = vec![in rt.alloc(); 0u8; 65_536]?;
     let ram = Ram::new(bytes.as_mut_slice());
-    let mut chip = Chip::new(ram, Kind::Rf5c164, Converter::Bits10, 0x01);
-    sound(&rt, &mut chip)?;
-    check_contributions(
-        &rt,
-        &chip.contributions(),
-        [0, 512, 0, 0, 0, 0, 0, 0],
-        [0, 256, 0, 0, 0, 0, 0, 0],
+    let mut chip = Chip::new(
+        ram,
+        Setup {
+            converter: Converter::Bits10,
+            mutes: 0x01,
+            ..RF5C164
+        },
     );
+    sound(&rt, &mut chip)?;
+    let mut heard = SILENT;
+    heard[1] = Contribution {
+        left: 512,
+        right: 256,
+    };
+    assert_eq!(rt; chip.contributions(), heard);
     chip.reset();
-    check_contributions(&rt, &chip.contributions(), [0; 8], [0; 8]);
+    assert_eq!(rt; chip.contributions(), SILENT);
     check_calls(&rt, &mut chip, &AS_NEW);
     Ok(())
 }
@@ -67,19 +76,26 @@ fn registers_as_new(rt: HostRuntime) -> Result<(), Fail> {
 fn voices_as_new(rt: HostRuntime) -> Result<(), Fail> {
     let mut bytes = vec![in rt.alloc(); 0u8; 65_536]?;
     let ram = Ram::new(bytes.as_mut_slice());
-    let mut chip = Chip::new(ram, Kind::Rf5c164, Converter::Bits10, 0x01);
+    let mut chip = Chip::new(
+        ram,
+        Setup {
+            converter: Converter::Bits10,
+            mutes: 0x01,
+            ..RF5C164
+        },
+    );
     sound(&rt, &mut chip)?;
     let calls = [
-        (Reset, Done),
-        (Write(7, 0xC1), Done),
-        (Write(8, 0), Done),
-        (Tick, Totals(0, 0)),
-        (Write(0, 128), Done),
-        (Tick, Totals(0, 0)),
-        (Write(1, 0x12), Done),
-        (Tick, Totals(512, 256)),
-        (Read(0x12), Byte(0)),
-        (Read(0x13), Byte(0)),
+        (Reset, Ok(Done)),
+        (Write(7, 0xC1), Ok(Done)),
+        (Write(8, 0), Ok(Done)),
+        (Tick, Ok(Totals(0, 0))),
+        (Write(0, 128), Ok(Done)),
+        (Tick, Ok(Totals(0, 0))),
+        (Write(1, 0x12), Ok(Done)),
+        (Tick, Ok(Totals(512, 256))),
+        (Read(0x12), Ok(Byte(0))),
+        (Read(0x13), Ok(Byte(0))),
     ];
     check_calls(&rt, &mut chip, &calls);
     Ok(())
@@ -89,12 +105,19 @@ fn voices_as_new(rt: HostRuntime) -> Result<(), Fail> {
 fn memory_and_converter_kept(rt: HostRuntime) -> Result<(), Fail> {
     let mut bytes = vec![in rt.alloc(); 0u8; 65_536]?;
     let ram = Ram::new(bytes.as_mut_slice());
-    let mut chip = Chip::new(ram, Kind::Rf5c164, Converter::Bits10, 0x01);
+    let mut chip = Chip::new(
+        ram,
+        Setup {
+            converter: Converter::Bits10,
+            mutes: 0x01,
+            ..RF5C164
+        },
+    );
     sound(&rt, &mut chip)?;
     chip.reset();
     let frame = next_frame(&mut chip)?;
     assert_eq!(rt; (frame.left.word, frame.right.word), (512, 512));
-    let calls = [(Write(7, 5), Done), (Read(0x1000), Byte(0x77))];
+    let calls = [(Write(7, 5), Ok(Done)), (Read(0x1000), Ok(Byte(0x77)))];
     check_calls(&rt, &mut chip, &calls);
     // voice 1 is still muted: the totals are those of voice 2 alone
     sound(&rt, &mut chip)

@@ -1,40 +1,43 @@
-// Calls of a chip, each with the answer that it must have.
+// Calls of a chip, each with the answer that it must have. Each test lends its own bytes to a RAM, since they must outlive
+// the chip.
+use calls::{Call, Reply};
 use chip::chip::Chip;
 use chip::refusal::Refusal;
+use chip::registers::Setup;
+use kind::Kind;
 use std::process::Abort;
 use std::test::Fail;
-use voice::frame::{Frame, Side};
+use voice::frame::{Converter, Frame, Side};
 use voice::voice::Contribution;
 use wave::memory::{Refusal as MemoryRefusal, Store};
 
-#[derive(Clone, Copy)]
-pub enum Call {
-    Write(u16, u8),
-    Read(u16),
-    Tick,
-    Reset,
-}
-
+// What is seen of a granted call, in one word for each line of a table.
 #[derive(Clone, Copy, PartialEq, Eq, Debug)]
-pub enum Answer {
+pub enum Seen {
     Done,
     Byte(u8),
     // of a tick: the left total and the right one
     Totals(i32, i32),
-    Refused(Refusal),
 }
 
-pub const MEMORY_SIZE: Answer = Answer::Refused(Refusal::MemorySize);
+pub type Answer = Result<Seen, Refusal>;
 
-pub const BEYOND_PORT: Answer = Answer::Refused(Refusal::BeyondPort);
+pub const READ_ONLY: Answer = Err(Refusal::Memory(MemoryRefusal::ReadOnly));
 
-pub const NOTHING_THERE: Answer = Answer::Refused(Refusal::NothingThere);
+// Chips with no voice muted.
+pub const RF5C68A: Setup = Setup {
+    kind: Kind::Rf5c68a,
+    converter: Converter::Bits16,
+    mutes: 0,
+};
 
-pub const SOUNDING: Answer = Answer::Refused(Refusal::Sounding);
+pub const RF5C164: Setup = Setup {
+    kind: Kind::Rf5c164,
+    ..RF5C68A
+};
 
-pub const PAST_WINDOW: Answer = Answer::Refused(Refusal::PastWindow);
-
-pub const READ_ONLY: Answer = Answer::Refused(Refusal::Memory(MemoryRefusal::ReadOnly));
+// What eight silent voices contributed.
+pub const SILENT: [Contribution; 8] = [Contribution { left: 0, right: 0 }; 8];
 
 // A frame that no tick gives.
 pub const UNFILLED: Frame = Frame {
@@ -51,28 +54,13 @@ pub const UNFILLED: Frame = Frame {
 };
 
 pub fn perform<M: Store>(chip: &mut Chip<M>, call: Call) -> Answer {
-    match call {
-        Call::Write(address, byte) => match chip.write(address, byte) {
-            Ok(()) => Answer::Done,
-            Err(refusal) => Answer::Refused(refusal),
-        },
-        Call::Read(address) => match chip.read(address) {
-            Ok(byte) => Answer::Byte(byte),
-            Err(refusal) => Answer::Refused(refusal),
-        },
-        Call::Tick => tick(chip),
-        Call::Reset => {
-            chip.reset();
-            Answer::Done
-        }
-    }
-}
-
-fn tick<M: Store>(chip: &mut Chip<M>) -> Answer {
-    match next_frame(chip) {
-        Ok(frame) => Answer::Totals(frame.left.total, frame.right.total),
-        Err(refusal) => Answer::Refused(refusal),
-    }
+    let mut frame = UNFILLED;
+    let reply = calls::perform(chip, call, &mut frame, &mut [])?;
+    Ok(match (call, reply) {
+        (Call::Tick, _) => Seen::Totals(frame.left.total, frame.right.total),
+        (_, Some(Reply::Byte(byte))) => Seen::Byte(byte),
+        (_, Some(Reply::Contributions(_)) | None) => Seen::Done,
+    })
 }
 
 pub fn next_frame<M: Store>(chip: &mut Chip<M>) -> Result<Frame, Refusal> {
@@ -87,7 +75,7 @@ pub fn check_calls<M: Store>(rt: &impl Abort, chip: &mut Chip<M>, calls: &[(Call
     }
 }
 
-// Calls that all have one answer.
+// Calls that all have one answer; a list of pairs would say it at each.
 pub fn check_alike<M: Store>(rt: &impl Abort, chip: &mut Chip<M>, calls: &[Call], answer: Answer) {
     for (index, call) in calls.iter().enumerate() {
         assert_eq!(rt; perform(chip, *call), answer, "{}", index);
@@ -100,17 +88,4 @@ pub fn write_all<M: Store>(chip: &mut Chip<M>, writes: &[(u16, u8)]) -> Result<(
         chip.write(*address, *byte)?;
     }
     Ok(())
-}
-
-// The latest contributions to each side.
-pub fn check_contributions(
-    rt: &impl Abort,
-    latest: &[Contribution; 8],
-    left: [i16; 8],
-    right: [i16; 8],
-) {
-    for k in 0..8usize {
-        assert_eq!(rt; latest[k].left, left[k]);
-        assert_eq!(rt; latest[k].right, right[k]);
-    }
 }

@@ -1,12 +1,13 @@
 // What voices sound like: contributions, totals, words, stop bytes.
-use crate::rig::Answer::{Byte, Done, Totals};
-use crate::rig::Call::{Read, Tick, Write};
-use crate::rig::{check_calls, check_contributions, next_frame, write_all};
+use crate::rig::Seen::{Byte, Done, Totals};
+use crate::rig::{RF5C68A, RF5C164, SILENT, check_calls, next_frame, write_all};
+use calls::Call::{Read, Tick, Write};
 use chip::chip::Chip;
-use kind::Kind;
+use chip::registers::Setup;
 use std::process::Abort;
 use std::test::Fail;
 use voice::frame::Converter;
+use voice::voice::Contribution;
 use wave::memory::Store;
 use wave::ram::Ram;
 
@@ -14,19 +15,19 @@ use wave::ram::Ram;
 fn one_voice(rt: HostRuntime) -> Result<(), Fail> {
     let mut bytes = vec![in rt.alloc(); 0xC0u8; 65_536]?;
     let ram = Ram::new(bytes.as_mut_slice());
-    let mut chip = Chip::new(ram, Kind::Rf5c68a, Converter::Bits16, 0);
+    let mut chip = Chip::new(ram, RF5C68A);
     write_all(&mut chip, &[(7, 0xC2), (0, 128), (1, 0x12), (8, 0xFB)])?;
     let frame = next_frame(&mut chip)?;
     assert_eq!(rt; frame.left.contributions, [0, 0, 512, 0, 0, 0, 0, 0]);
     assert_eq!(rt; frame.right.contributions, [0, 0, 256, 0, 0, 0, 0, 0]);
     assert_eq!(rt; (frame.left.total, frame.left.word), (512, 512));
     assert_eq!(rt; (frame.right.total, frame.right.word), (256, 256));
-    check_contributions(
-        &rt,
-        &chip.contributions(),
-        [0, 0, 512, 0, 0, 0, 0, 0],
-        [0, 0, 256, 0, 0, 0, 0, 0],
-    );
+    let mut heard = SILENT;
+    heard[2] = Contribution {
+        left: 512,
+        right: 256,
+    };
+    assert_eq!(rt; chip.contributions(), heard);
     Ok(())
 }
 
@@ -44,7 +45,7 @@ fn set_up_loud<M: Store>(chip: &mut Chip<M>) -> Result<(), Fail> {
 fn totals_of_loud_voices(rt: HostRuntime) -> Result<(), Fail> {
     let mut bytes = vec![in rt.alloc(); 0u8; 65_536]?;
     let ram = Ram::new(bytes.as_mut_slice());
-    let mut chip = Chip::new(ram, Kind::Rf5c68a, Converter::Bits16, 0);
+    let mut chip = Chip::new(ram, RF5C68A);
     set_up_loud(&mut chip)?;
     let totals = [
         (0xFE, -15_180),
@@ -56,46 +57,62 @@ fn totals_of_loud_voices(rt: HostRuntime) -> Result<(), Fail> {
         (0xFF, 0),
     ];
     for (channel, total) in totals {
-        let calls = [(Write(8, channel), Done), (Tick, Totals(total, total))];
+        let calls = [
+            (Write(8, channel), Ok(Done)),
+            (Tick, Ok(Totals(total, total))),
+        ];
         check_calls(&rt, &mut chip, &calls);
     }
     Ok(())
 }
 
-// The words of both sides for some channel bytes.
+// The words of both sides at some channel bytes.
 fn check_words<M: Store>(
     rt: &impl Abort,
     chip: &mut Chip<M>,
-    words: &[(u8, u16)],
+    words: [(u8, u16); 5],
 ) -> Result<(), Fail> {
     set_up_loud(chip)?;
     for (channel, word) in words {
-        write_all(chip, &[(8, *channel)])?;
+        write_all(chip, &[(8, channel)])?;
         let frame = next_frame(chip)?;
-        assert_eq!(rt; (frame.left.word, frame.right.word), (*word, *word));
+        assert_eq!(rt; (frame.left.word, frame.right.word), (word, word));
     }
     Ok(())
 }
 
+// Two, three and four loud voices, three that are high, and none.
+const WORDS: [(Converter, [(u8, u16); 5]); 3] = [
+    (
+        Converter::Bits16,
+        [
+            (0xFC, 0x8968),
+            (0xF8, 0x8000),
+            (0xF0, 0x88F0),
+            (0xC7, 0x7FFF),
+            (0xFF, 0),
+        ],
+    ),
+    (
+        Converter::Bits10,
+        [(0xFC, 37), (0xF8, 0), (0xF0, 35), (0xC7, 1023), (0xFF, 512)],
+    ),
+    (
+        Converter::Bits8,
+        [(0xFC, 9), (0xF8, 0), (0xF0, 8), (0xC7, 255), (0xFF, 128)],
+    ),
+];
+
 #[test]
 fn words_of_loud_voices(rt: HostRuntime) -> Result<(), Fail> {
     let mut bytes = vec![in rt.alloc(); 0u8; 65_536]?;
-    for (converter, words) in [
-        (Converter::Bits16, [0x8968, 0x8000, 0x88F0, 0x7FFF, 0]),
-        (Converter::Bits10, [37, 0, 35, 1023, 512]),
-        (Converter::Bits8, [9, 0, 8, 255, 128]),
-    ] {
+    for (converter, words) in WORDS {
         let ram = Ram::new(bytes.as_mut_slice());
-        let mut chip = Chip::new(ram, Kind::Rf5c164, converter, 0);
-        let [two, three, four, high, silent] = words;
-        let cases = [
-            (0xFC, two),
-            (0xF8, three),
-            (0xF0, four),
-            (0xC7, high),
-            (0xFF, silent),
-        ];
-        check_words(&rt, &mut chip, &cases)?;
+        let setup = Setup {
+            converter,
+            ..RF5C164
+        };
+        check_words(&rt, &mut Chip::new(ram, setup), words)?;
     }
     Ok(())
 }
@@ -105,7 +122,7 @@ fn words_of_loud_voices(rt: HostRuntime) -> Result<(), Fail> {
 fn stop_bytes(rt: HostRuntime) -> Result<(), Fail> {
     let mut bytes = vec![in rt.alloc(); 0u8; 65_536]?;
     let ram = Ram::new(bytes.as_mut_slice());
-    let mut chip = Chip::new(ram, Kind::Rf5c164, Converter::Bits16, 0);
+    let mut chip = Chip::new(ram, RF5C164);
     let samples = [
         (0x1000, 0xFF),
         (0x1203, 0xC0),
@@ -118,11 +135,11 @@ fn stop_bytes(rt: HostRuntime) -> Result<(), Fail> {
     write_all(&mut chip, &[(8, 0xFE), (7, 0x80)])?;
     for _ in 0..2u8 {
         let calls = [
-            (Tick, Totals(512, 256)),
-            (Read(0x10), Byte(0x03)),
-            (Read(0x11), Byte(0x02)),
-            (Tick, Totals(-512, -256)),
-            (Read(0x10), Byte(0x04)),
+            (Tick, Ok(Totals(512, 256))),
+            (Read(0x10), Ok(Byte(0x03))),
+            (Read(0x11), Ok(Byte(0x02))),
+            (Tick, Ok(Totals(-512, -256))),
+            (Read(0x10), Ok(Byte(0x04))),
         ];
         check_calls(&rt, &mut chip, &calls);
     }
@@ -133,7 +150,7 @@ fn stop_bytes(rt: HostRuntime) -> Result<(), Fail> {
 fn stop_byte_at_the_loop_start(rt: HostRuntime) -> Result<(), Fail> {
     let mut bytes = vec![in rt.alloc(); 0xFFu8; 65_536]?;
     let ram = Ram::new(bytes.as_mut_slice());
-    let mut chip = Chip::new(ram, Kind::Rf5c164, Converter::Bits16, 0);
+    let mut chip = Chip::new(ram, RF5C164);
     let settings = [
         (0, 128),
         (1, 0x12),
@@ -144,11 +161,11 @@ fn stop_byte_at_the_loop_start(rt: HostRuntime) -> Result<(), Fail> {
     ];
     write_all(&mut chip, &settings)?;
     let calls = [
-        (Tick, Totals(1_016, 508)),
-        (Read(0x11), Byte(0x20)),
-        (Tick, Totals(1_016, 508)),
-        (Read(0x10), Byte(0)),
-        (Read(0x11), Byte(0x20)),
+        (Tick, Ok(Totals(1_016, 508))),
+        (Read(0x11), Ok(Byte(0x20))),
+        (Tick, Ok(Totals(1_016, 508))),
+        (Read(0x10), Ok(Byte(0))),
+        (Read(0x11), Ok(Byte(0x20))),
     ];
     check_calls(&rt, &mut chip, &calls);
     Ok(())

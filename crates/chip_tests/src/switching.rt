@@ -1,21 +1,21 @@
 // Voices off and on again, and voices that are muted.
-use crate::rig::Answer::{Byte, Done, Totals};
-use crate::rig::Call::{Read, Reset, Tick, Write};
-use crate::rig::{Answer, Call, check_calls, write_all};
+use crate::rig::Seen::{Byte, Done, Totals};
+use crate::rig::{Answer, RF5C68A, RF5C164, check_calls, write_all};
+use calls::Call;
+use calls::Call::{Read, Reset, Tick, Write};
 use chip::chip::Chip;
-use kind::Kind;
+use chip::registers::Setup;
 use std::process::Abort;
 use std::test::Fail;
-use voice::frame::Converter;
 use wave::memory::Store;
 use wave::ram::Ram;
 
 // What the first three places from 0100H on sound like.
-const FIRST: Answer = Totals(512, 256);
+const FIRST: Answer = Ok(Totals(512, 256));
 
-const SECOND: Answer = Totals(-512, -256);
+const SECOND: Answer = Ok(Totals(-512, -256));
 
-const THIRD: Answer = Totals(256, 128);
+const THIRD: Answer = Ok(Totals(256, 128));
 
 // Voice 1 goes one place a tick from 0100H on, off by one call and on by another.
 fn check_switch<M: Store>(
@@ -30,18 +30,18 @@ fn check_switch<M: Store>(
     write_all(chip, &settings)?;
     let calls = [
         (Tick, FIRST),
-        (off, Done),
-        (on, Done),
+        (off, Ok(Done)),
+        (on, Ok(Done)),
         (Tick, SECOND),
-        (off, Done),
-        (on, Done),
+        (off, Ok(Done)),
+        (on, Ok(Done)),
         (Tick, THIRD),
-        (Read(0x10), Byte(2)),
-        (off, Done),
-        (Read(0x10), Byte(2)),
-        (Tick, Totals(0, 0)),
-        (Read(0x10), Byte(0)),
-        (on, Done),
+        (Read(0x10), Ok(Byte(2))),
+        (off, Ok(Done)),
+        (Read(0x10), Ok(Byte(2))),
+        (Tick, Ok(Totals(0, 0))),
+        (Read(0x10), Ok(Byte(0))),
+        (on, Ok(Done)),
         (Tick, FIRST),
         (Tick, SECOND),
     ];
@@ -53,7 +53,7 @@ fn check_switch<M: Store>(
 fn by_the_channel_register(rt: HostRuntime) -> Result<(), Fail> {
     let mut bytes = vec![in rt.alloc(); 0u8; 65_536]?;
     let ram = Ram::new(bytes.as_mut_slice());
-    let mut chip = Chip::new(ram, Kind::Rf5c164, Converter::Bits16, 0);
+    let mut chip = Chip::new(ram, RF5C164);
     check_switch(&rt, &mut chip, Write(8, 0xFF), Write(8, 0xFE))
 }
 
@@ -61,7 +61,7 @@ fn by_the_channel_register(rt: HostRuntime) -> Result<(), Fail> {
 fn by_the_control_byte(rt: HostRuntime) -> Result<(), Fail> {
     let mut bytes = vec![in rt.alloc(); 0u8; 65_536]?;
     let ram = Ram::new(bytes.as_mut_slice());
-    let mut chip = Chip::new(ram, Kind::Rf5c164, Converter::Bits16, 0);
+    let mut chip = Chip::new(ram, RF5C164);
     check_switch(&rt, &mut chip, Write(7, 0x00), Write(7, 0x80))
 }
 
@@ -70,18 +70,18 @@ fn by_the_control_byte(rt: HostRuntime) -> Result<(), Fail> {
 fn start_while_sounding(rt: HostRuntime) -> Result<(), Fail> {
     let mut bytes = vec![in rt.alloc(); 0u8; 65_536]?;
     let ram = Ram::new(bytes.as_mut_slice());
-    let mut chip = Chip::new(ram, Kind::Rf5c164, Converter::Bits16, 0);
+    let mut chip = Chip::new(ram, RF5C164);
     write_all(&mut chip, &[(3, 0x08), (6, 1), (8, 0xFE), (7, 0x80)])?;
     let calls = [
-        (Tick, Totals(0, 0)),
-        (Write(6, 2), Done),
-        (Tick, Totals(0, 0)),
-        (Read(0x10), Byte(1)),
-        (Read(0x11), Byte(1)),
-        (Write(8, 0xFF), Done),
-        (Tick, Totals(0, 0)),
-        (Read(0x10), Byte(0)),
-        (Read(0x11), Byte(2)),
+        (Tick, Ok(Totals(0, 0))),
+        (Write(6, 2), Ok(Done)),
+        (Tick, Ok(Totals(0, 0))),
+        (Read(0x10), Ok(Byte(1))),
+        (Read(0x11), Ok(Byte(1))),
+        (Write(8, 0xFF), Ok(Done)),
+        (Tick, Ok(Totals(0, 0))),
+        (Read(0x10), Ok(Byte(0))),
+        (Read(0x11), Ok(Byte(2))),
     ];
     check_calls(&rt, &mut chip, &calls);
     Ok(())
@@ -89,37 +89,43 @@ fn start_while_sounding(rt: HostRuntime) -> Result<(), Fail> {
 
 // Voices 1 and 2 are set up and switched on; voice 1 is muted, and would be heard by another total.
 const ROUND: [(Call, Answer); 21] = [
-    (Write(7, 0x40), Done),
-    (Write(0, 255), Done),
-    (Write(1, 0xFF), Done),
-    (Write(3, 0x08), Done),
-    (Write(7, 0x41), Done),
-    (Write(0, 128), Done),
-    (Write(1, 0x12), Done),
-    (Write(8, 0x00), Done),
-    (Write(7, 0x80), Done),
-    (Tick, Totals(512, 256)),
-    (Write(7, 0x8F), Done),
-    (Tick, Totals(512, 256)),
-    (Write(8, 0x00), Done),
-    (Tick, Totals(512, 256)),
-    (Write(7, 0x00), Done),
-    (Tick, Totals(0, 0)),
-    (Write(7, 0x80), Done),
-    (Tick, Totals(512, 256)),
-    (Read(0x10), Byte(0)),
-    (Write(8, 0xFE), Done),
-    (Tick, Totals(0, 0)),
+    (Write(7, 0x40), Ok(Done)),
+    (Write(0, 255), Ok(Done)),
+    (Write(1, 0xFF), Ok(Done)),
+    (Write(3, 0x08), Ok(Done)),
+    (Write(7, 0x41), Ok(Done)),
+    (Write(0, 128), Ok(Done)),
+    (Write(1, 0x12), Ok(Done)),
+    (Write(8, 0x00), Ok(Done)),
+    (Write(7, 0x80), Ok(Done)),
+    (Tick, Ok(Totals(512, 256))),
+    (Write(7, 0x8F), Ok(Done)),
+    (Tick, Ok(Totals(512, 256))),
+    (Write(8, 0x00), Ok(Done)),
+    (Tick, Ok(Totals(512, 256))),
+    (Write(7, 0x00), Ok(Done)),
+    (Tick, Ok(Totals(0, 0))),
+    (Write(7, 0x80), Ok(Done)),
+    (Tick, Ok(Totals(512, 256))),
+    (Read(0x10), Ok(Byte(0))),
+    (Write(8, 0xFE), Ok(Done)),
+    (Tick, Ok(Totals(0, 0))),
 ];
 
 #[test]
 fn muted_voice(rt: HostRuntime) -> Result<(), Fail> {
     let mut bytes = vec![in rt.alloc(); 0xC0u8; 65_536]?;
     let ram = Ram::new(bytes.as_mut_slice());
-    let mut chip = Chip::new(ram, Kind::Rf5c164, Converter::Bits16, 0x01);
+    let mut chip = Chip::new(
+        ram,
+        Setup {
+            mutes: 0x01,
+            ..RF5C164
+        },
+    );
     for _ in 0..3u8 {
         check_calls(&rt, &mut chip, &ROUND);
-        check_calls(&rt, &mut chip, &[(Reset, Done)]);
+        check_calls(&rt, &mut chip, &[(Reset, Ok(Done))]);
     }
     Ok(())
 }
@@ -129,7 +135,13 @@ fn muted_voice(rt: HostRuntime) -> Result<(), Fail> {
 fn all_muted_but_the_last(rt: HostRuntime) -> Result<(), Fail> {
     let mut bytes = vec![in rt.alloc(); 0xC0u8; 65_536]?;
     let ram = Ram::new(bytes.as_mut_slice());
-    let mut chip = Chip::new(ram, Kind::Rf5c68a, Converter::Bits16, 0x7F);
+    let mut chip = Chip::new(
+        ram,
+        Setup {
+            mutes: 0x7F,
+            ..RF5C68A
+        },
+    );
     for voice in 0..8u8 {
         write_all(
             &mut chip,
@@ -139,7 +151,7 @@ fn all_muted_but_the_last(rt: HostRuntime) -> Result<(), Fail> {
     check_calls(
         &rt,
         &mut chip,
-        &[(Write(8, 0), Done), (Tick, Totals(92, 46))],
+        &[(Write(8, 0), Ok(Done)), (Tick, Ok(Totals(92, 46)))],
     );
     Ok(())
 }

@@ -1,5 +1,6 @@
 -- The input of `stem`.
-use Rattle.std.specs.Prelude.{ℕ, cond, List, [], ◌∷◌, length, Ok, Err, codes, Result, nat_le}
+use Rattle.std.specs.Prelude.{ℕ, cond, List, [], ◌∷◌, ◌++◌, length, Ok, Err, codes, Result, nat_le}
+use Rattle.std.specs.Fmt.{decimal}
 use Rattle.register_log.specs.Fault.{number as log-number}
 use Rattle.register_log.specs.Header.{header}
 use Rattle.register_log.specs.declared.fault.Fault.{Fault}
@@ -17,6 +18,10 @@ number TooLong = 13
 abbrev pub layer : Refusal → List ℕ
 layer (Log fault) = codes "log"
 layer TooLong = codes "program"
+
+-- what is printed of a refusal
+abbrev pub text : Refusal → List ℕ
+text refusal = codes "fault " ++ decimal (number refusal) ++ codes " " ++ layer refusal ++ codes " 0 0"
 
 -- a job by its values
 pub record Work : Type 0 where

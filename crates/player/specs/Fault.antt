@@ -1,5 +1,5 @@
 -- A player's fault: its number, layer, bit and host address.
-use Rattle.std.specs.Prelude.{ℕ, List, codes}
+use Rattle.std.specs.Prelude.{ℕ, List, Some, None, codes}
 use Rattle.chip.specs.Refusal.{number as chip-number}
 use Rattle.chip.specs.declared.refusal.Refusal.{Refusal}
 use Rattle.chip.specs.declared.refusal.Refusal.TheVariants.{MemorySize, BeyondPort, NothingThere, Sounding, PastWindow, Memory}
@@ -32,4 +32,5 @@ bit (Chip refusal place at) = place
 -- the host address, 0 if none
 abbrev pub address : Fault → ℕ
 address (Log fault place) = 0
-address (Chip refusal place at) = at
+address (Chip refusal place None) = 0
+address (Chip refusal place (Some at)) = at

@@ -1,7 +1,6 @@
 -- A player's step.
-use Rattle.std.specs.Prelude.{ℕ, ◌+◌, ◌-◌, Bool, true, false, cond, List, [], ◌∷◌, Ok, Err, Result, nat_le, nat_lt}
-use Rattle.voice.specs.Frame.{frame as frame-of}
-use Rattle.voice.specs.declared.frame.Frame.{Frame}
+use Rattle.std.specs.Prelude.{ℕ, ◌+◌, ◌-◌, Bool, true, false, cond, List, [], ◌∷◌, Some, None, Ok, Err, Result, nat_le, nat_lt}
+use Rattle.voice.specs.Frame.{frame as frame-of, Frame}
 use Rattle.kind.specs.declared.Kind.{Kind}
 use Rattle.kind.specs.declared.Kind.TheVariants.{Rf5c68a, Rf5c164}
 use Rattle.chip.specs.Port.{State as ChipState, with_registers, write, tick, window_start}
@@ -17,11 +16,11 @@ use Rattle.player.specs.declared.fault.Fault.{Fault}
 use Rattle.player.specs.declared.fault.Fault.TheVariants.{Log, Chip}
 use Rattle.player.specs.declared.player.Player.{Player}
 use Rattle.player.specs.declared.player.Progress.{Progress}
-use Rattle.player.specs.declared.player.Progress.TheVariants.{Taken, Ticked, Ended as AtEnd, Faulted as AtFault}
+use Rattle.player.specs.declared.player.Progress.TheVariants.{Taken, Ticked, Ended as AtEnd}
 use Rattle.player.specs.declared.player.State.{State}
 use Rattle.player.specs.declared.player.State.TheVariants.{Between, Waiting, Ended, Faulted}
 
--- where a player stands in its log, and its state
+-- where a player stands in its log, which no step changes, and its state
 pub record Stand : Type 0 where
   pub place : ℕ
   pub state : State
@@ -37,19 +36,24 @@ new = record { place = 0; state = Between }
 pub record Stepped : Type 0 where
   pub chip : ChipState
   pub player : Stand
-  pub answer : Progress
+  pub answer : Result Progress Fault
 
-abbrev pub stepped : ChipState → Stand → Progress → Stepped
+abbrev pub stepped : ChipState → Stand → Result Progress Fault → Stepped
 stepped c p answer = record { chip = c; player = p; answer = answer }
 
 abbrev pub went_on : ChipState → ℕ → Stepped
-went_on c place = record { chip = c; player = record { place = place; state = Between }; answer = Taken }
+went_on c place = record { chip = c; player = record { place = place; state = Between }; answer = Ok Taken }
 
 abbrev pub ended : ChipState → ℕ → ℕ → Stepped
-ended c place bit = record { chip = c; player = record { place = place; state = Ended bit }; answer = AtEnd bit }
+ended c place bit = record { chip = c; player = record { place = place; state = Ended bit }; answer = Ok (AtEnd bit) }
 
 abbrev pub failed : ChipState → ℕ → Fault → Stepped
-failed c place fault = record { chip = c; player = record { place = place; state = Faulted fault }; answer = AtFault fault }
+failed c place fault = record { chip = c; player = record { place = place; state = Faulted fault }; answer = Err fault }
+
+-- what a step comes to, from its answer: a fault leaves the player faulted where it stands
+abbrev pub settled : ChipState → Stand → Result Progress Fault → Stepped
+settled c p (Ok progress) = stepped c p (Ok progress)
+settled c p (Err fault) = failed c p.place fault
 
 -- The header
 
@@ -73,7 +77,7 @@ opened c place (Err fault) = failed c place (Log fault 0)
 -- after a write for the record at a bit: what follows, or the fault
 abbrev pub unless_refused : (ChipState → Stepped) → ChipState → ℕ → ℕ → ℕ → Result ChipState Refusal → Stepped
 unless_refused next c place bit address (Ok d) = next d
-unless_refused next c place bit address (Err refusal) = failed c place (Chip refusal bit address)
+unless_refused next c place bit address (Err refusal) = failed c place (Chip refusal bit (Some address))
 
 -- bytes to the host port from an address upward, up to the first refusal; the record is at a bit and ends at a place
 unfoldable pub put : List ℕ → ℕ → ℕ → ℕ → ChipState → Stepped
@@ -81,15 +85,15 @@ put [] address bit place c = went_on c place
 put (byte ∷ rest) address bit place c =
     unless_refused (put rest (address + 1) bit place) c place bit address (write c address byte)
 
--- what the writes came to, from their answer: all were granted, or one was refused, at an address
-abbrev pub put_down : Result (Unit {0}) (Refusal × ℕ) → ℕ → ℕ → ChipState → Stepped
-put_down (Ok u) bit place c = went_on c place
-put_down (Err e) bit place c = failed c place (Chip e.0 bit e.1)
+-- what the writes came to, from their answer: all were granted, or one was refused
+abbrev pub put_down : Result (Unit {0}) Fault → ℕ → ChipState → Stepped
+put_down (Ok u) place c = went_on c place
+put_down (Err fault) place c = failed c place fault
 
 abbrev pub obeyed : ChipState → ℕ → ℕ → Entry → Stepped
 obeyed c bit place (register address byte) = put (byte ∷ []) address bit place c
 obeyed c bit place (window offset byte) = put (byte ∷ []) (window_start + offset) bit place c
-obeyed c bit place (wait ticks) = record { chip = c; player = record { place = place; state = Waiting bit ticks }; answer = Taken }
+obeyed c bit place (wait ticks) = record { chip = c; player = record { place = place; state = Waiting bit ticks }; answer = Ok Taken }
 obeyed c bit place (block offset payload) = put payload (window_start + offset) bit place c
 
 abbrev pub taken : ChipState → ℕ → Result Found LogFault → Stepped
@@ -105,13 +109,13 @@ less_one bit left = cond (nat_le left 1) Between (Waiting bit (left - 1))
 
 abbrev pub waited : ChipState → ℕ → ℕ → ℕ → Result Registers Refusal → Stepped
 waited c place bit left (Ok r) =
-    record { chip = with_registers c r; player = record { place = place; state = less_one bit left }; answer = Ticked }
-waited c place bit left (Err refusal) = failed c place (Chip refusal bit 0)
+    record { chip = with_registers c r; player = record { place = place; state = less_one bit left }; answer = Ok Ticked }
+waited c place bit left (Err refusal) = failed c place (Chip refusal bit None)
 
 -- Steps
 
 abbrev pub between : List ℕ → ChipState → ℕ → Stepped
-between log c place = cond (nat_lt place records_start) (opened c place (for_kind c.registers.kind (header log))) (taken c place (decode log place))
+between log c place = cond (nat_lt place records_start) (opened c place (for_kind c.registers.setup.kind (header log))) (taken c place (decode log place))
 
 abbrev pub by_state : List ℕ → ChipState → ℕ → State → Stepped
 by_state log c place Between = between log c place
@@ -123,8 +127,8 @@ abbrev pub step : List ℕ → ChipState → Stand → Stepped
 step log c p = by_state log c p.place p.state
 
 -- the frame after a step: only a tick fills it
-abbrev pub framed : Frame → Stepped → Progress → Frame
-framed before s Taken = before
-framed before s Ticked = frame-of s.chip.registers.converter s.chip.registers.voices
-framed before s (AtEnd bit) = before
-framed before s (AtFault fault) = before
+abbrev pub framed : Frame → Stepped → Result Progress Fault → Frame
+framed before s (Ok Taken) = before
+framed before s (Ok Ticked) = frame-of s.chip.registers.setup.converter s.chip.registers.voices
+framed before s (Ok (AtEnd bit)) = before
+framed before s (Err fault) = before

@@ -11,11 +11,11 @@ pub enum Fault {
         fault: register_log::fault::Fault,
         bit: usize,
     },
-    // the chip refuses what the record at a bit asks, at a host address, or 0 for a tick
+    // the chip refuses what the record at a bit asks: a write at a host address, or a tick, which has none
     Chip {
         refusal: Refusal,
         bit: usize,
-        address: u16,
+        address: Option<u16>,
     },
 }
 
@@ -29,16 +29,17 @@ impl Fault {
         }
     }
 
-    // The part of the package that refuses.
+    // The part of the package that refuses, by the word that is printed.
     pub fn layer(self) -> &'static str
         ensures { result.now ≡ layer self }
     {
         match self {
             Fault::Log { .. } => "log",
-            Fault::Chip { refusal, .. } => match refusal {
-                Refusal::Memory(_) => "memory",
-                _ => "chip",
-            },
+            Fault::Chip {
+                refusal: Refusal::Memory(_),
+                ..
+            } => "memory",
+            Fault::Chip { .. } => "chip",
         }
     }
 
@@ -47,18 +48,17 @@ impl Fault {
         ensures { result ≡ bit self }
     {
         match self {
-            Fault::Log { bit, .. } => bit,
-            Fault::Chip { bit, .. } => bit,
+            Fault::Log { bit, .. } | Fault::Chip { bit, .. } => bit,
         }
     }
 
-    // The host address, or 0.
+    // The host address, or 0 if there is none.
     pub fn address(self) -> u16
         ensures { result ≡ address self }
     {
         match self {
             Fault::Log { .. } => 0,
-            Fault::Chip { address, .. } => address,
+            Fault::Chip { address, .. } => address.unwrap_or(0),
         }
     }
 }

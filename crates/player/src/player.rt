@@ -1,15 +1,15 @@
 // A player: it plays a log on a chip, step by step.
 ghost use Rattle.std.specs.Prelude.{◌≡◌, ℕ, ◌+◌, ◌≤◌, true, length};
-ghost use Rattle.voice.specs.declared.frame.Frame.{Frame as FrameValue};
+ghost use Rattle.voice.specs.Frame.{Frame as FrameValue};
 ghost use Rattle.chip.specs.Chip.{state};
 ghost use Rattle.chip.specs.Port.{State as ChipState, tick, filled};
 ghost use Rattle.register_log.specs.Header.{header};
 ghost use Rattle.register_log.specs.Record.{values, in_window};
-ghost use Rattle.player.specs.Step.{stand, new, Stepped, stepped, for_kind, opened, obeyed, waited, put, put_down, step, framed};
+ghost use Rattle.player.specs.Step.{stand, new, Stepped, stepped, settled, for_kind, opened, obeyed, waited, put, put_down, step, framed};
 
 use crate::fault::Fault;
 use chip::chip::Chip;
-use chip::refusal::Refusal;
+use chip::port::WINDOW_START;
 use kind::Kind;
 use register_log::fault::Fault as LogFault;
 use register_log::header::{Header, RECORDS};
@@ -18,10 +18,9 @@ use register_log::record::Record;
 use voice::frame::Frame;
 use wave::memory::{Source, Store};
 
-// The host address at which the window starts.
-const WINDOW_START: u16 = 0x1000;
-
-#[derive(Clone, Copy)]
+// Where a player is: one of four states, of which a fault stays. Before the header it is between records too, before the
+// first.
+#[derive(Clone, Copy, PartialEq, Eq, Debug)]
 pub enum State {
     // before the header, or between two records
     Between,
@@ -32,8 +31,8 @@ pub enum State {
     Faulted(Fault),
 }
 
-// What a step answers.
-#[derive(Clone, Copy)]
+// What a step comes to that finds no fault.
+#[derive(Clone, Copy, PartialEq, Eq, Debug)]
 pub enum Progress {
     // the header or a record was taken
     Taken,
@@ -41,10 +40,9 @@ pub enum Progress {
     Ticked,
     // the end tag starts at a bit
     Ended(usize),
-    Faulted(Fault),
 }
 
-#[derive(Clone, Copy)]
+#[derive(Clone, Copy, PartialEq, Eq, Debug)]
 pub struct Player<'a> {
     reader: Reader<'a>,
     state: State,
@@ -62,8 +60,12 @@ impl<'a> Player<'a> {
         }
     }
 
-    // One step: the header, a record or a tick, which fills the frame.
-    pub fn step<M: Store>(&mut self, chip: &mut Chip<M>, frame: &mut Frame) -> Progress
+    // One step: the header, a record or a tick, which fills the frame. After a fault or the end it answers the same again.
+    pub fn step<M: Store>(
+        &mut self,
+        chip: &mut Chip<M>,
+        frame: &mut Frame,
+    ) -> Result<Progress, Fault>
         ensures outcome { stepped (state M.bytes M.takes chip.new) (stand self.new) result
             ≡ step self.old.reader.log.now (state M.bytes M.takes chip.old) (stand self.old) }
         ensures frame { frame.new
@@ -71,115 +73,109 @@ impl<'a> Player<'a> {
             (step self.old.reader.log.now (state M.bytes M.takes chip.old) (stand self.old)) result }
         ensures log { self.new.reader.log.now ≡ self.old.reader.log.now }
     {
+        let answer = self.advance(chip, frame);
+        if let Err(fault) = answer {
+            self.state = State::Faulted(fault);
+        }
+        answer
+    }
+
+    // What `step` does before it keeps a fault.
+    fn advance<M: Store>(
+        &mut self,
+        chip: &mut Chip<M>,
+        frame: &mut Frame,
+    ) -> Result<Progress, Fault>
+        ensures outcome { settled (state M.bytes M.takes chip.new) (stand self.new) result
+            ≡ step self.old.reader.log.now (state M.bytes M.takes chip.old) (stand self.old) }
+        ensures frame { frame.new
+            ≡ framed frame.old
+            (step self.old.reader.log.now (state M.bytes M.takes chip.old) (stand self.old)) result }
+        ensures log { self.new.reader.log.now ≡ self.old.reader.log.now }
+    {
         let bit = self.reader.place;
-        let read = match self.state {
-            State::Between if bit >= RECORDS => Some(self.reader.next()),
+        let record = match self.state {
+            State::Between if bit >= RECORDS => self
+                .reader
+                .next()
+                .map_err(|fault| Fault::Log { fault, bit })?,
             _ => None,
         };
-        match (self.state, read) {
-            (State::Between, None) => self.open(chip.kind()),
-            (State::Between, Some(Ok(Some(record)))) => self.obey(record, bit, chip),
-            (State::Between, Some(Ok(None))) => self.end(bit),
-            (State::Between, Some(Err(fault))) => self.fail(Fault::Log { fault, bit }),
+        match (self.state, record) {
+            (State::Between, _) if bit < RECORDS => self.open(chip.kind()),
+            (State::Between, Some(record)) => self.obey(record, bit, chip),
+            (State::Between, None) => {
+                self.state = State::Ended(bit);
+                Ok(Progress::Ended(bit))
+            }
             (State::Waiting { bit, left }, _) => self.wait(bit, left, chip, frame),
-            (State::Ended(bit), _) => Progress::Ended(bit),
-            (State::Faulted(fault), _) => Progress::Faulted(fault),
+            (State::Ended(bit), _) => Ok(Progress::Ended(bit)),
+            (State::Faulted(fault), _) => Err(fault),
         }
     }
 
     // Takes the header.
-    fn open(&mut self, kind: Kind) -> Progress
+    fn open(&mut self, kind: Kind) -> Result<Progress, Fault>
         requires { self.old.state ≡ State.Between }
-        ensures outcome { (c : ChipState) → c.registers.kind ≡ kind →
-            stepped c (stand self.new) result ≡ opened c self.old.reader.place (for_kind kind (header self.old.reader.log.now)) }
+        ensures outcome { (c : ChipState) → c.registers.setup.kind ≡ kind →
+            settled c (stand self.new) result ≡ opened c self.old.reader.place (for_kind kind (header self.old.reader.log.now)) }
         ensures log { self.new.reader.log.now ≡ self.old.reader.log.now }
     {
-        match check_header(self.reader.log, kind) {
-            Ok(()) => {
-                self.reader.place = RECORDS;
-                Progress::Taken
-            }
-            Err(fault) => self.fail(Fault::Log { fault, bit: 0 }),
-        }
+        check_header(self.reader.log, kind).map_err(|fault| Fault::Log { fault, bit: 0 })?;
+        self.reader.place = RECORDS;
+        Ok(Progress::Taken)
     }
 
-    // Does what a record asks.
-    fn obey<M: Store>(&mut self, record: Record<'_>, bit: usize, chip: &mut Chip<M>) -> Progress
+    // Does what a record at a bit asks.
+    fn obey<M: Store>(
+        &mut self,
+        record: Record<'_>,
+        bit: usize,
+        chip: &mut Chip<M>,
+    ) -> Result<Progress, Fault>
         requires { (self.old.state ≡ State.Between) × (in_window (values «record») ≡ true) }
-        ensures outcome { stepped (state M.bytes M.takes chip.new) (stand self.new) result
+        ensures outcome { settled (state M.bytes M.takes chip.new) (stand self.new) result
             ≡ obeyed (state M.bytes M.takes chip.old) bit self.old.reader.place (values «record».entry) }
         ensures quiet { (before : FrameValue) (s : Stepped) → framed before s result ≡ before }
         ensures log { self.new.reader.log.now ≡ self.old.reader.log.now }
     {
-        let answer = match record {
-            Record::Register { address, byte } => put(chip, u16::from(address), &[byte]),
-            Record::Window { offset, byte } => put(chip, WINDOW_START + offset, &[byte]),
-            Record::Block { offset, bytes } => put(chip, WINDOW_START + offset, bytes),
-            Record::Wait { ticks } => {
-                self.state = State::Waiting { bit, left: ticks };
-                Ok(())
-            }
-        };
-        match answer {
-            Ok(()) => Progress::Taken,
-            Err((refusal, address)) => self.fail(Fault::Chip {
-                refusal,
-                bit,
-                address,
-            }),
+        match record {
+            Record::Register { address, byte } => put(chip, bit, u16::from(address), &[byte])?,
+            Record::Window { offset, byte } => put(chip, bit, WINDOW_START + offset, &[byte])?,
+            Record::Block { offset, bytes } => put(chip, bit, WINDOW_START + offset, bytes)?,
+            Record::Wait { ticks } => self.state = State::Waiting { bit, left: ticks },
         }
+        Ok(Progress::Taken)
     }
 
-    // One tick of a wait that has so many left.
+    // One tick of the wait at a bit that has so many left.
     fn wait<M: Store>(
         &mut self,
         bit: usize,
         left: u16,
         chip: &mut Chip<M>,
         frame: &mut Frame,
-    ) -> Progress
-        ensures outcome { stepped (state M.bytes M.takes chip.new) (stand self.new) result
+    ) -> Result<Progress, Fault>
+        ensures outcome { settled (state M.bytes M.takes chip.new) (stand self.new) result
             ≡ waited (state M.bytes M.takes chip.old) self.old.reader.place bit left
             (tick (M.bytes chip.old.memory) chip.old.registers) }
         ensures frame { frame.new ≡ filled frame.old (tick (M.bytes chip.old.memory) chip.old.registers) }
         ensures log { self.new.reader.log.now ≡ self.old.reader.log.now }
     {
-        match chip.tick(frame) {
-            Ok(()) => {
-                self.state = if left > 1 {
-                    State::Waiting {
-                        bit,
-                        left: left - 1,
-                    }
-                } else {
-                    State::Between
-                };
-                Progress::Ticked
-            }
-            Err(refusal) => self.fail(Fault::Chip {
-                refusal,
+        chip.tick(frame).map_err(|refusal| Fault::Chip {
+            refusal,
+            bit,
+            address: None,
+        })?;
+        self.state = if left > 1 {
+            State::Waiting {
                 bit,
-                address: 0,
-            }),
-        }
-    }
-
-    fn end(&mut self, bit: usize) -> Progress
-        ensures answer { result ≡ Progress.Ended bit }
-        ensures reader { self.new.reader ≡ self.old.reader }
-        ensures state { self.new.state ≡ State.Ended bit }
-    {
-        self.state = State::Ended(bit);
-        Progress::Ended(bit)
-    }
-
-    fn fail(&mut self, fault: Fault) -> Progress
-        ensures answer { result ≡ Progress.Faulted fault }
-        ensures reader { self.new.reader ≡ self.old.reader }
-        ensures state { self.new.state ≡ State.Faulted fault }
-    {
-        self.state = State::Faulted(fault);
-        Progress::Faulted(fault)
+                left: left - 1,
+            }
+        } else {
+            State::Between
+        };
+        Ok(Progress::Ticked)
     }
 }
 
@@ -187,26 +183,27 @@ impl<'a> Player<'a> {
 fn check_header(log: &[u8], kind: Kind) -> Result<(), LogFault>
     ensures { result ≡ for_kind kind (header log.now) }
 {
-    let header = Header::read(log)?;
-    match (header.kind, kind) {
-        (Kind::Rf5c68a, Kind::Rf5c68a) | (Kind::Rf5c164, Kind::Rf5c164) => Ok(()),
-        _ => Err(LogFault::Header),
+    if Header::read(log)?.kind == kind {
+        Ok(())
+    } else {
+        Err(LogFault::Header)
     }
 }
 
-// Writes bytes to the host port from an address upward, up to the first refusal, which comes with its address.
-fn put<M: Store>(chip: &mut Chip<M>, address: u16, bytes: &[u8]) -> Result<(), (Refusal, u16)>
-    requires { address + length bytes.now ≤ 65535 }
-    ensures { (bit place : ℕ) →
-        put bytes.now address bit place (state M.bytes M.takes chip.old)
-        ≡ put_down result bit place (state M.bytes M.takes chip.new) }
+// Writes bytes to the host port from an address upward, up to the first refusal, for the record at a bit.
+#[tactic(auto, unfolding(crate::specs::Step::put))]
+fn put<M: Store>(chip: &mut Chip<M>, bit: usize, first: u16, bytes: &[u8]) -> Result<(), Fault>
+    requires { first + length bytes.now ≤ 65535 }
+    ensures { (place : ℕ) →
+        put bytes.now first bit place (state M.bytes M.takes chip.old)
+        ≡ put_down result place (state M.bytes M.takes chip.new) }
 {
-    let mut at = address;
-    for byte in bytes {
-        if let Err(refusal) = chip.write(at, *byte) {
-            return Err((refusal, at));
-        }
-        at += 1;
+    for (byte, address) in bytes.iter().zip(first..) {
+        chip.write(address, *byte).map_err(|refusal| Fault::Chip {
+            refusal,
+            bit,
+            address: Some(address),
+        })?;
     }
     Ok(())
 }

@@ -1,7 +1,8 @@
 -- Laws of fields.
-use Rattle.std.proofs.Common.{◌≡◌, ℕ, zero, suc, ◌+◌, ◌-◌, ◌*◌, ◌/◌, ◌%◌, ◌^◌, ◌<◌, ◌≤◌, List, ◌++◌, length, get_or, drop, sym, refl, ap, ◌∙◌, add-zero, add_assoc, add-suc, mul_assoc, pow-suc, arith, lit<}
-use Rattle.std.proofs.lemmas.Nat.{mod_below, mod-pow-add, shr-shr, shr_high, mod_low}
-use Rattle.std.proofs.lemmas.List.{get_or-drop, get_or_append_left}
+use Rattle.std.proofs.Common.{◌≡◌, ℕ, zero, suc, ◌+◌, ◌-◌, ◌*◌, ◌/◌, ◌%◌, ◌^◌, ◌<◌, ◌≤◌, List, ◌++◌, length, get_or, take, drop, sym, refl, ap, ◌∙◌, add-zero, add_assoc, add-suc, mul_assoc, pow-suc, arith, lit<}
+use Rattle.std.proofs.lemmas.Nat.{mod-pow-add, shr-shr, shr_high, mod_low, and_mask}
+use lib.Bits.{bit_and}
+use Rattle.std.proofs.lemmas.List.{get_or-drop, get_or_append_left, take-append-drop}
 use Rattle.register_log.specs.Fields.{bit_at, field}
 
 pub field-zero : (bytes : List ℕ) (place : ℕ) → field bytes place 0 ≡ 0
@@ -13,7 +14,7 @@ unfolding field
 field-suc bytes place width = refl
 
 bit_below : (bytes : List ℕ) (place : ℕ) → bit_at bytes place < 2
-bit_below bytes place = mod_below (get_or bytes (place / 8) 0 / 2 ^ (7 - place % 8)) 2 (lit< tt)
+bit_below bytes place = grind arith
 
 pub field_below : (bytes : List ℕ) (place width : ℕ) → field bytes place width < 2 ^ width
 field_below bytes place zero = rw field-zero (lit< tt)
@@ -58,10 +59,17 @@ field-drop bytes i place width =
 
 -- a field within the first bytes
 pub field_front : (xs ys : List ℕ) (place width : ℕ) → place + width ≤ 8 * length xs → field (xs ++ ys) place width ≡ field xs place width
-field_front xs ys place width h =
-    field_same (xs ++ ys) xs place place width (λ k l.
-    let within : (place + k) / 8 < length xs = omega arith in
-    ap (λ x. x / 2 ^ (7 - (place + k) % 8) % 2) (get_or_append_left xs ys 0 ((place + k) / 8) within))
+field_front xs ys place width h = grind (arith, field_same, get_or_append_left)
+
+-- a field within a part of the bytes
+pub field_part :
+    (bytes : List ℕ) (first n width : ℕ) → width ≤ 8 * length (take n (drop first bytes)) → field (take n (drop first bytes)) 0 width ≡ field bytes (8 * first) width
+field_part bytes first n width l =
+    let part = take n (drop first bytes) in
+    sym (field_front part (drop n (drop first bytes)) 0 width (omega arith))
+    ∙ ap (λ xs. field xs 0 width) (take-append-drop n (drop first bytes))
+    ∙ field-drop bytes first 0 width
+    ∙ ap (λ q. field bytes q width) (add-zero (8 * first))
 
 -- the number whose binary digits stand in the field
 pub field_of :
@@ -101,3 +109,15 @@ field_bytes bytes small =
     let first = field-add bytes 8 8 16 in
     let rest = field-add bytes 16 8 8 in
     omega arith
+
+-- the fields of a log's first byte
+pub header_bits :
+    (log : List ℕ) → get_or log 0 0 < 256 →
+    let first : ℕ = get_or log 0 0 in
+    (first / 16 ≡ field log 0 4) × (bit_and (first / 8) 1 ≡ field log 4 1) × (bit_and first 7 ≡ field log 5 3)
+header_bits log small =
+    let first = get_or log 0 0 in (
+      sym (field_in_byte log 0 0 4 (omega arith) ∙ omega arith),
+      and_mask (first / 8) 1 ∙ sym (field_in_byte log 0 4 1 (omega arith)),
+      and_mask first 3 ∙ sym (field_in_byte log 0 5 3 (omega arith) ∙ omega arith),
+    )

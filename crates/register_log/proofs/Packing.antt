@@ -1,10 +1,10 @@
 -- Laws of fields in a row: their number, and the bytes that they are packed into.
-use Rattle.std.proofs.Common.{◌≡◌, ℕ, zero, suc, ◌+◌, ◌*◌, ◌/◌, ◌%◌, ◌^◌, ◌<◌, ◌≤◌, List, [], ◌∷◌, ◌++◌, length, get_or, take, drop, sym, refl, ap, ◌∙◌, subst, ⊎_elim, append-nil, add-zero, add_assoc, mod-eq_of_lt, mul_assoc, add-mul, zero-add, mul-one, arith, lit<}
+use Rattle.std.proofs.Common.{◌≡◌, ℕ, zero, suc, ◌+◌, ◌*◌, ◌/◌, ◌%◌, ◌^◌, ◌<◌, ◌≤◌, List, [], ◌∷◌, ◌++◌, length, get_or, take, sym, refl, ap, ◌∙◌, subst, append-nil, add-zero, add_assoc, mod-eq_of_lt, mul_assoc, add-mul, zero-add, mul-one, arith, lit<}
 use Rattle.std.proofs.lemmas.Nat.{mod_below, mod-pow-add, shr-shr, shr_high, mod_low, pow_pos, pow-add, shl_below, mul-add-lt, field_of}
-use Rattle.std.proofs.lemmas.List.{take_more, take-append-drop}
 use Rattle.std.proofs.lemmas.Slice.{drop-append-drop}
-use Rattle.std.proofs.lemmas.Bool.{cases_eq}
-use Rattle.register_log.specs.Fields.{field, bytes_for, gap, Field, span, number, big_endian, packed, written, Writable}
+use Rattle.register_log.specs.Fields.{field, bytes_for, gap, Field, span, number, big_endian, packed, written}
+use Rattle.register_log.specs.BitWriter.{Wrote}
+use Rattle.register_log.specs.declared.bit_writer.BitWriter.{BitWriter}
 use Rattle.register_log.proofs.Fields.{field-zero, field-add, field_split, field-drop, field_byte, field_below}
 
 -- Numbers in bytes
@@ -102,7 +102,7 @@ number_below (f ∷ fs) a =
 
 pub length-packed : (fs : List Field) → length (packed fs) ≡ bytes_for (span fs)
 unfolding packed
-length-packed fs = length-big_endian (bytes_for (span fs)) (number fs * 2 ^ gap (span fs))
+length-packed fs = grind (arith, length-big_endian)
 
 pub packed_same : (fs gs : List Field) → span fs ≡ span gs → number fs ≡ number gs → packed fs ≡ packed gs
 unfolding packed
@@ -179,45 +179,7 @@ written_padded buffer place fs =
     ap (λ x. number (k ∷ fs ++ (g, 0) ∷ []) * 2 ^ x) none ∙ mul-one _ ∙ n in
     cc (count, all)
 
--- Fields that are written one by one
+-- Fields that are written one after another
 
-pub fit_writable : (fs : List Field) → Writable fs → Fit fs
-fit_writable [] w = tt
-fit_writable (f ∷ fs) w = (w.2, fit_writable fs w.3)
-
-pub writable_take : (i : ℕ) (fs : List Field) → Writable fs → Writable (take i fs)
-writable_take zero fs w = tt
-writable_take (suc i) [] w = tt
-writable_take (suc i) (f ∷ fs) w = (w.0, w.1, w.2, writable_take i fs w.3)
-
-pub writable_at : (i : ℕ) (fs : List Field) → Writable fs → i < length fs → let f : Field = get_or fs i (0, 0) in (1 ≤ f.0) × (f.0 ≤ 24) × (f.1 < 2 ^ f.0)
-writable_at i [] w l = absurd (omega arith)
-writable_at zero (f ∷ fs) w l = (w.0, w.1, w.2)
-writable_at (suc i) (f ∷ fs) w l = writable_at i fs w.3 (omega arith)
-
-pub span_more : (i : ℕ) (fs : List Field) → i < length fs → span (take (i + 1) fs) ≡ span (take i fs) + (get_or fs i (0, 0)).0
-span_more i fs l =
-    ap span (take_more fs i (0, 0) l) ∙ span-append (take i fs) (get_or fs i (0, 0) ∷ []) ∙ omega arith
-
-pub span-take : (i : ℕ) (fs : List Field) → span (take i fs) ≤ span fs
-span-take i fs =
-    let parts = sym (span-append (take i fs) (drop i fs)) ∙ ap span (take-append-drop i fs) in omega arith
-
--- the next field, after none or some
-pub written_next :
-    (buffer now new : List ℕ) (place i at : ℕ) (fs : List Field) (f : Field) → i < length fs → f ≡ get_or fs i (0, 0) → Writable fs → at ≡ place + span (take i fs) →
-    (i ≡ 0 → now ≡ buffer) → (0 < i → now ≡ written buffer place (take i fs)) → new ≡ written now at (f ∷ []) →
-    new ≡ written buffer place (take (i + 1) fs)
-written_next buffer now new place i at fs f l ef w ea none some e =
-    let more : take (i + 1) fs ≡ take i fs ++ f ∷ [] = take_more fs i (0, 0) l ∙ ap (λ x. take i fs ++ x ∷ []) (sym ef) in
-    ⊎_elim
-    (λ z.
-    let first : take i fs ≡ [] = ap (λ x. take x fs) z in
-    let start : at ≡ place = ea ∙ ap (λ x. place + span x) first ∙ add-zero place in
-    e ∙ ap (λ x. written x at (f ∷ [])) (none z) ∙ ap (λ q. written buffer q (f ∷ [])) start ∙ ap (λ x. written buffer place (x ++ f ∷ [])) (sym first) ∙ ap (written buffer place) (sym more))
-    (λ nz.
-    e ∙ ap (λ x. written x at (f ∷ [])) (some (omega arith))
-    ∙ ap (λ q. written (written buffer place (take i fs)) q (f ∷ [])) ea
-    ∙ written_more buffer place (take i fs) (f ∷ []) (fit_writable (take i fs) (writable_take i fs w))
-    ∙ ap (written buffer place) (sym more))
-    (cases_eq i 0)
+pub wrote_then : {a b c : BitWriter} {fs gs : List Field} → Fit fs → Wrote a b fs → Wrote b c gs → Wrote a c (fs ++ gs)
+wrote_then {a} {b} {c} {fs} {gs} fit first second = grind (arith, written_more, span-append)

@@ -1,20 +1,19 @@
 -- Laws of whole logs: the log of a header and records reads back as them, and an accepted log is the log of what it holds.
-use Rattle.std.proofs.Common.{◌≡◌, ℕ, zero, suc, ◌+◌, ◌*◌, ◌/◌, ◌^◌, ◌<◌, ◌≤◌, true, cond, eqb, leb, List, [], ◌∷◌, ◌++◌, length, get_or, take, drop, None, Ok, Err, Result, sym, refl, ap, ◌∙◌, subst, ⊎_elim, append_assoc, append-nil, add-zero, zero-add, arith, lit<, lit≤}
+use Rattle.std.proofs.Common.{◌≡◌, ℕ, zero, suc, ◌+◌, ◌*◌, ◌/◌, ◌^◌, ◌<◌, ◌≤◌, true, eqb, leb, List, [], ◌∷◌, ◌++◌, length, get_or, take, drop, None, Ok, Err, Result, sym, refl, ap, ◌∙◌, subst, append_assoc, append-nil, add-zero, zero-add, arith, lit<, lit≤}
 use Rattle.std.proofs.lemmas.Nat.{mod_below}
 use Rattle.std.proofs.lemmas.List.{take_all, take_at, take-append-drop}
-use Rattle.std.proofs.lemmas.Bool.{and_from, and_parts, le-leb, leb-true, eq-eqb, ne_eqb, cond-true, cond_both, cases_eq}
+use Rattle.std.proofs.lemmas.Bool.{and_from, and_parts, le-leb, leb-true}
 use Rattle.std.proofs.lemmas.Bool.Decides.{nat_tests}
-use Rattle.kind.specs.Clocks.{clock_fits}
+use Rattle.kind.specs.Kinds.{kind_of}
 use Rattle.kind.specs.declared.Kind.{Kind}
 use Rattle.kind.specs.declared.Kind.TheVariants.{Rf5c68a, Rf5c164}
 use Rattle.register_log.specs.Fields.{Field, field, gap, bytes_for, span, number, big_endian, packed, written}
-use Rattle.register_log.specs.Header.{header, length_fits, fields_of, kind_of, fields_fit, accepted, header_fits, header_fields, kind_number, records_start, most}
+use Rattle.register_log.specs.Header.{header, length_fits, header_fits, header_fields, kind_number, records_start, most}
 use Rattle.register_log.specs.Reading.{Found, end, found, decode}
 use Rattle.register_log.specs.Record.{Entry, fits, fields}
 use Rattle.register_log.specs.Recording.{state, after, end_fields, log_length}
 use Rattle.register_log.specs.Contents.{Contents, AllFit, one_more, onward, reading, all_fields, log_of, end_of, Reads, Whole}
 use Rattle.register_log.specs.declared.fault.Fault.{Fault}
-use Rattle.register_log.specs.declared.fault.Fault.TheVariants.{Length, Header as WrongField}
 use Rattle.register_log.specs.declared.header.Header.{Header}
 use Rattle.register_log.proofs.Fields.{field-zero, field-add, field_below}
 use Rattle.register_log.proofs.Packing.{Fit, fit_append, span-append, length-packed, packed_front, packed_same, bytes-big_endian, written_over}
@@ -45,9 +44,7 @@ all_fields_push place (x ∷ entries) entry =
 
 -- where the records of a log end after one more
 pub end_push : (entries : List Entry) (entry : Entry) → after (end_of entries) entry ≡ end_of (entries ++ entry ∷ [])
-end_push entries entry =
-    let all = all_fields records_start entries in
-    omega (arith, span-append all (fields (end_of entries) entry), ap span (all_fields_push records_start entries entry))
+end_push entries entry = grind (arith, span-append, all_fields_push)
 
 -- a record takes at least a bit
 pub after_more : (place : ℕ) (entry : Entry) → place < after place entry
@@ -71,7 +68,7 @@ small_big_endian (suc count) n (suc k) = small_big_endian count n k
 
 small_packed : (fs : List Field) (k : ℕ) → get_or (packed fs) k 0 < 256
 unfolding packed
-small_packed fs k = small_big_endian (bytes_for (span fs)) (number fs * 2 ^ gap (span fs)) k
+small_packed fs k = grind (arith, small_big_endian)
 
 -- what stands in packed fields, and the zeros after them
 packed_stand : (fs : List Field) → Fit fs → Stand (packed fs) 0 fs × (field (packed fs) (span fs) (gap (span fs)) ≡ 0)
@@ -106,42 +103,25 @@ read_all log place (entry ∷ rest) (suc limit) small long a l total h z =
 
 -- the header
 
-kind_back : (kind : Kind) (clock version spare : ℕ) → kind_of (record { version = version; kind = kind_number kind; spare = spare; clock = clock }) ≡ kind
-kind_back Rf5c68a clock version spare = refl
-kind_back Rf5c164 clock version spare = refl
+kind_back : (kind : Kind) → kind_of (eqb (kind_number kind) 1) ≡ kind
+kind_back Rf5c68a = refl
+kind_back Rf5c164 = refl
 
 read_header : (log : List ℕ) (h : Header) → length_fits log ≡ true → header_fits h ≡ true → Stand log 0 (header_fields h) → header log ≡ Ok h
-read_header log h long fit s =
-    let f : fields_of log ≡ record { version = 1; kind = kind_number h.kind; spare = 0; clock = h.clock } = cc (s.0, s.1.0, s.1.1.0, s.1.1.1.0) in
-    let k = kind_back h.kind h.clock 1 0 in
-    let fine : fields_fit (record { version = 1; kind = kind_number h.kind; spare = 0; clock = h.clock }) ≡ true = ap (λ kind. clock_fits kind h.clock) k ∙ fit in
-    cond-true _ _ _ long
-    ∙ ap accepted f
-    ∙ cond-true _ _ _ fine
-    ∙ ap (λ kind. Ok (record { kind = kind; clock = h.clock })) k
+read_header log h long fit s = grind arith
 
-clock_bits : (kind : Kind) (clock : ℕ) → clock_fits kind clock ≡ true → (kind_number kind < 2) × (clock < 16777216)
-clock_bits Rf5c68a clock fit =
-    let most = leb-true clock 10000000 (and_parts (leb 1 clock) (leb clock 10000000) fit).1 in (omega arith, omega arith)
-clock_bits Rf5c164 clock fit =
-    let most = leb-true clock 12520000 (and_parts (leb 1 clock) (leb clock 12520000) fit).1 in (omega arith, omega arith)
-
-fit_header : (h : Header) → header_fits h ≡ true → Fit (header_fields h)
-fit_header h fit =
-    let bits = clock_bits h.kind h.clock fit in
-    (lit< tt, (bits.0, (lit< tt, (bits.1, tt))))
+pub fit_header : (h : Header) → header_fits h ≡ true → Fit (header_fields h)
+fit_header h fit = grind arith
 
 -- all the fields of a log
 abbrev fields_of_log : Header → List Entry → List Field
 fields_of_log h entries = header_fields h ++ all_fields records_start entries ++ end_fields
 
 fit_log : (h : Header) (entries : List Entry) → header_fits h ≡ true → AllFit entries → Fit (fields_of_log h entries)
-fit_log h entries fit all =
-    fit_append (header_fields h) (all_fields records_start entries ++ end_fields) (fit_header h fit)
-    (fit_append (all_fields records_start entries) end_fields (fit_all_fields records_start entries all) (lit< tt, tt))
+fit_log h entries fit all = grind (arith, fit_append, fit_header, fit_all_fields)
 
 pub span_log : (h : Header) (entries : List Entry) → span (fields_of_log h entries) ≡ end_of entries + 3
-span_log h entries = omega (arith, span-append (all_fields records_start entries) end_fields)
+span_log h entries = grind (arith, span-append)
 
 pub length-log : (h : Header) (entries : List Entry) → length (log_of h entries) ≡ log_length (end_of entries)
 length-log h entries = length-packed (fields_of_log h entries) ∙ ap bytes_for (span_log h entries)
@@ -184,11 +164,11 @@ sound_onward log place rest (Ok (found entry next)) s h =
       stand_join log place fs gs s.1 others,
       λ e. subst (λ q. Sound log q (Ok end)) at (subst (λ q. Sound log (q + span (all_fields q (rest next).entries)) (Ok end)) same (r.2 e)),
     )
-sound_onward log place rest (Err fault) s h = (tt, tt, λ e. absurd (let z : ◌≡◌ {A = ℕ} 0 1 = cc in omega arith))
+sound_onward log place rest (Err fault) s h = (tt, tt, λ e. cc)
 
 sound_reading : (log : List ℕ) → ((k : ℕ) → get_or log k 0 < 256) → (limit place : ℕ) → SoundAll log place (reading limit log place)
 unfolding reading
-sound_reading log small zero place = (tt, tt, λ e. absurd (let z : ◌≡◌ {A = ℕ} 0 1 = cc in omega arith))
+sound_reading log small zero place = (tt, tt, λ e. cc)
 sound_reading log small (suc limit) place = sound_onward log place (reading limit log) (decode log place) (sound log place small) (sound_reading log small limit)
 
 -- the fields of an accepted header stand in front
@@ -196,25 +176,11 @@ abbrev SoundHeader : List ℕ → Result Header Fault → Type 0
 SoundHeader log (Ok h) = (length_fits log ≡ true) × (header_fits h ≡ true) × Stand log 0 (header_fields h)
 SoundHeader log (Err fault) = Unit {0}
 
-kind_bit : (k : ℕ) → k < 2 → k ≡ kind_number (cond (eqb k 0) Rf5c68a Rf5c164)
-kind_bit k l =
-    ⊎_elim
-    (λ z. let t = eq-eqb k 0 z in rw t z)
-    (λ nz. let t = ne_eqb k 0 nz in rw t (omega arith))
-    (cases_eq k 0)
+kind_bit : (k : ℕ) → k < 2 → k ≡ kind_number (kind_of (eqb k 1))
+kind_bit k l = grind arith
 
 sound_header : (log : List ℕ) → SoundHeader log (header log)
-sound_header log =
-    let f = fields_of log in
-    cond_both (length_fits log) (accepted f) (Err Length) (SoundHeader log)
-    (λ long. cond_both (fields_fit f) _ (Err WrongField) (SoundHeader log)
-    (λ fit.
-    let version : field log 0 4 ≡ 1 = grind (arith, nat_tests) in
-    let spare : field log 5 3 ≡ 0 = grind (arith, nat_tests) in
-    let clock : clock_fits (kind_of f) (field log 8 24) ≡ true = grind (arith, nat_tests) in
-    (long, clock, (version, (kind_bit (field log 4 1) (field_below log 4 1), (spare, (refl, tt))))))
-    (λ fit. tt))
-    (λ long. tt)
+sound_header log = grind (arith, nat_tests, kind_bit, field_below)
 
 header_by_fields : (log : List ℕ) (h : Header) → header log ≡ Ok h → (length_fits log ≡ true) × (header_fits h ≡ true) × Stand log 0 (header_fields h)
 header_by_fields log h e = subst (SoundHeader log) e (sound_header log)
@@ -257,14 +223,11 @@ packed_back log h entries small r =
 
 written_start : (buffer : List ℕ) (fs : List Field) → written buffer 0 fs ≡ packed fs ++ drop (bytes_for (span fs)) buffer
 unfolding written
-written_start buffer fs =
-    let none : field buffer 0 0 * 2 ^ span fs + number fs ≡ number fs = ap (λ x. x * 2 ^ span fs + number fs) (field-zero buffer 0) ∙ omega arith in
-    let width = zero-add (span fs) in
-    cc (packed_same ((0, field buffer 0 0) ∷ fs) fs width none, ap bytes_for width)
+written_start buffer fs = grind (arith, field-zero, zero-add, packed_same)
 
 -- the first bytes of a buffer
 front_of : (fs : List Field) (rest : List ℕ) (n : ℕ) → bytes_for (span fs) ≡ n → take n (packed fs ++ rest) ≡ packed fs
-front_of fs rest n e = take_at (packed fs) rest n (length-packed fs ∙ e)
+front_of fs rest n e = grind (arith, take_at, length-packed)
 
 pub whole_begun :
     (buffer after_all : List ℕ) (place : ℕ) (h : Header) → header_fits h ≡ true → place ≡ records_start → after_all ≡ written buffer 0 (header_fields h ++ end_fields) →

@@ -1,44 +1,44 @@
 -- What the code of the fields does.
-use Rattle.std.proofs.Common.{◌≡◌, ℕ, suc, ◌+◌, ◌-◌, ◌*◌, ◌/◌, ◌%◌, ◌^◌, ◌<◌, ◌≤◌, List, [], ◌∷◌, ◌++◌, map, length, get_or, take, drop, sym, refl, ap, ◌∙◌, subst, append_assoc, add-zero, mod-eq_of_lt, mul_assoc, add-mul, arith, lit<}
+use Rattle.std.proofs.Common.{◌≡◌, ℕ, zero, suc, ◌+◌, ◌-◌, ◌*◌, ◌/◌, ◌%◌, ◌^◌, ◌<◌, ◌≤◌, List, [], ◌∷◌, ◌++◌, map, length, get_or, take, drop, sym, refl, ap, ◌∙◌, subst, append_assoc, add-zero, mod-eq_of_lt, mul_assoc, add-mul, zero-add, arith, lit<}
 use borrow.Rule.Slice.PartMut.{put_mid}
 use lib.Bits.{bit_and, bit_or}
 use Rattle.std.proofs.lemmas.Nat.{pow-add, shr_high, shr_below, mod_low, shl-shr, shl_whole, or_shifted, and_mask, mul-add-lt}
+use Rattle.std.specs.List.{fold}
+use Rattle.std.proofs.lemmas.List.Sums.{fold_more}
 use Rattle.std.proofs.lemmas.List.{drop-drop, take_at, get_or_append_left, get_or-take, length-take-le}
 use Rattle.register_log.specs.Fields.{field, bytes_for, gap, Field, span, number, big_endian, packed, written}
 use Rattle.register_log.specs.Record.{octet}
-use Rattle.register_log.proofs.Fields.{field-add, field_byte, field_below, field_in_byte}
+use Rattle.register_log.proofs.Fields.{field-zero, field-add, field_byte, field_below, field_in_byte}
 use Rattle.register_log.proofs.Packing.{length-big_endian, big_endian_same, big_endian-add, bytes-big_endian}
 
 -- Reading
 
--- one byte more
-pub read_more :
-    (bytes : List ℕ) (first k bits byte : ℕ) → bits ≡ field bytes (8 * first) (8 * k) → k < 4 → byte ≡ get_or bytes (first + k) 0 → byte < 256 →
-    bit_or (bits * 256 % 2 ^ 32) byte ≡ field bytes (8 * first) (8 * (k + 1))
-read_more bytes first k bits byte e l b small =
-    let below : bits < 2 ^ (8 * k) = subst (λ x. x < 2 ^ (8 * k)) (sym e) (field_below bytes (8 * first) (8 * k)) in
-    let place : 8 * first + 8 * k ≡ 8 * (first + k) = omega arith in
-    let next : field bytes (8 * first + 8 * k) 8 ≡ byte = ap (λ q. field bytes q 8) place ∙ field_byte bytes (first + k) (subst (λ x. x < 256) b small) ∙ sym b in
-    let more : 8 * (k + 1) ≡ 8 * k + 8 = omega arith in
-    ap (λ x. bit_or x byte) (shl_whole bits (8 * k) 8 32 below (omega arith))
-    ∙ or_shifted bits 8 byte small
-    ∙ cc (e, next)
-    ∙ sym (field-add bytes (8 * first) (8 * k) 8)
-    ∙ ap (field bytes (8 * first)) (sym more)
+-- the number in some bytes, one after another
+pub number_of_bytes :
+    (bytes : List ℕ) → ((k : ℕ) → get_or bytes k 0 < 256) → (n : ℕ) → n ≤ 4 → n ≤ length bytes →
+    fold (λ bits byte. bit_or (bits * 256 % 2 ^ 32) byte) 0 (take n bytes) ≡ field bytes 0 (8 * n)
+number_of_bytes bytes small zero l m = sym (field-zero bytes 0)
+number_of_bytes bytes small (suc n) l m =
+    let bits = fold (λ bits byte. bit_or (bits * 256 % 2 ^ 32) byte) 0 (take n bytes) in
+    let byte = get_or bytes n 0 in
+    let ih : bits ≡ field bytes 0 (8 * n) = number_of_bytes bytes small n (omega arith) (omega arith) in
+    let below : bits < 2 ^ (8 * n) = subst (λ x. x < 2 ^ (8 * n)) (sym ih) (field_below bytes 0 (8 * n)) in
+    let next = field_byte bytes n (small n) in
+    let one : suc n ≡ n + 1 = omega arith in
+    let more : 8 * suc n ≡ 8 * n + 8 = omega arith in
+    ap (λ x. fold (λ bits byte. bit_or (bits * 256 % 2 ^ 32) byte) 0 (take x bytes)) one
+    ∙ fold_more (λ bits byte. bit_or (bits * 256 % 2 ^ 32) byte) 0 bytes n 0 (omega arith)
+    ∙ ap (λ x. bit_or x byte) (shl_whole bits (8 * n) 8 32 below (omega arith))
+    ∙ or_shifted bits 8 byte (small n)
+    ∙ cc (ih, next)
+    ∙ sym (field-add bytes 0 (8 * n) 8 ∙ ap (λ q. field bytes 0 (8 * n) * 256 + field bytes q 8) (zero-add (8 * n)))
+    ∙ ap (field bytes 0) (sym more)
 
 -- the field within its bytes, of which it leaves the first k bits and the last g
 pub read_part :
     (bytes : List ℕ) (place k width g bits mask : ℕ) → bits ≡ field bytes place (k + width + g) → mask ≡ 2 ^ width - 1 →
     bit_and (bits / 2 ^ g) mask ≡ field bytes (place + k) width
-read_part bytes place k width g bits mask e m =
-    let split : bits ≡ field bytes place (k + width) * 2 ^ g + field bytes (place + (k + width)) g = e ∙ field-add bytes place (k + width) g in
-    let high : bits / 2 ^ g ≡ field bytes place (k + width) =
-    ap (λ x. x / 2 ^ g) split ∙ shr_high (field bytes place (k + width)) g (field bytes (place + (k + width)) g) (field_below bytes (place + (k + width)) g) in
-    let parts : bits / 2 ^ g ≡ field bytes place k * 2 ^ width + field bytes (place + k) width = high ∙ field-add bytes place k width in
-    ap (λ x. bit_and (bits / 2 ^ g) x) m
-    ∙ and_mask (bits / 2 ^ g) width
-    ∙ ap (λ x. x % 2 ^ width) parts
-    ∙ mod_low (field bytes place k) width (field bytes (place + k) width) (field_below bytes (place + k) width)
+read_part bytes place k width g bits mask e m = grind (arith, field-add, shr_high, field_below, and_mask, mod_low)
 
 -- Writing
 
@@ -68,7 +68,7 @@ write_bits front k width value s l v e =
 
 pub four_bytes : (n : ℕ) → n / 16777216 % 256 ∷ n / 65536 % 256 ∷ n / 256 % 256 ∷ n % 256 ∷ [] ≡ big_endian 4 n
 unfolding big_endian
-four_bytes n = let last : n % 256 ≡ n / 2 ^ (8 * 0) % 256 = omega arith in cc
+four_bytes n = grind arith
 
 -- the first bytes of a word whose bits are in front
 pub first_bytes :
@@ -130,17 +130,4 @@ pub front_number :
     (bytes : List ℕ) (first k width value g count : ℕ) → k + width + g ≡ 8 * count →
     (field bytes 0 (8 * first + k) * 2 ^ width + value) * 2 ^ g
     ≡ field bytes 0 (8 * first) * 2 ^ (8 * count) + (field bytes (8 * first) k * 2 ^ width + value) * 2 ^ g
-front_number bytes first k width value g count e =
-    let p = field bytes 0 (8 * first) in
-    let a = field bytes (8 * first) k in
-    let split : field bytes 0 (8 * first + k) ≡ p * 2 ^ k + a = field-add bytes 0 (8 * first) k ∙ ap (λ q. p * 2 ^ k + field bytes q k) (omega arith) in
-    let one = add-mul (p * 2 ^ k) a (2 ^ width) in
-    let inner : field bytes 0 (8 * first + k) * 2 ^ width + value ≡ p * 2 ^ k * 2 ^ width + (a * 2 ^ width + value) =
-    ap (λ x. x * 2 ^ width + value) split ∙ omega arith in
-    let power : p * 2 ^ k * 2 ^ width * 2 ^ g ≡ p * 2 ^ (8 * count) =
-    ap (λ x. x * 2 ^ g) (mul_assoc p (2 ^ k) (2 ^ width))
-    ∙ ap (λ x. p * x * 2 ^ g) (sym (pow-add 2 k width))
-    ∙ mul_assoc p (2 ^ (k + width)) (2 ^ g)
-    ∙ ap (λ x. p * x) (sym (pow-add 2 (k + width) g))
-    ∙ ap (λ x. p * 2 ^ x) e in
-    ap (λ x. x * 2 ^ g) inner ∙ add-mul (p * 2 ^ k * 2 ^ width) (a * 2 ^ width + value) (2 ^ g) ∙ ap (λ x. x + (a * 2 ^ width + value) * 2 ^ g) power
+front_number bytes first k width value g count e = grind (arith, field-add, add-mul, mul_assoc, pow-add)

@@ -1,5 +1,5 @@
 -- Fields, packed into bytes without gaps, most significant bit first.
-use Rattle.std.specs.Prelude.{ℕ, zero, suc, ◌+◌, ◌-◌, ◌*◌, ◌/◌, ◌%◌, ◌^◌, ◌<◌, ◌≤◌, List, [], ◌∷◌, ◌++◌, drop, slice_index}
+use Rattle.std.specs.Prelude.{ℕ, zero, suc, ◌+◌, ◌-◌, ◌*◌, ◌/◌, ◌%◌, ◌^◌, List, [], ◌∷◌, ◌++◌, drop, slice_index}
 
 -- Reading
 
@@ -48,8 +48,3 @@ packed fields = big_endian (bytes_for (span fields)) (number fields * 2 ^ gap (s
 -- a buffer with fields written from a place on: the bits before the place stay, and so do the bytes after the fields'
 unfoldable pub written : List ℕ → ℕ → List Field → List ℕ
 written buffer place fields = packed ((place, field buffer 0 place) ∷ fields) ++ drop (bytes_for (place + span fields)) buffer
-
--- the fields that are written one by one: from 1 to 24 bits, and each number fits
-abbrev pub Writable : List Field → Type 0
-Writable [] = Unit {0}
-Writable (f ∷ rest) = (1 ≤ f.0) × (f.0 ≤ 24) × (f.1 < 2 ^ f.0) × Writable rest

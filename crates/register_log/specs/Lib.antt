@@ -2,6 +2,8 @@ pub mod Fault
 pub mod Fields
 pub mod Header
 pub mod Record
+pub mod Tag
 pub mod Reading
 pub mod Recording
+pub mod BitWriter
 pub mod Contents

@@ -74,12 +74,6 @@ answered (Ok (Some r)) place = Ok (found (values r) place)
 answered (Ok None) place = Ok end
 answered (Err fault) place = Err fault
 
--- the same of an answer that has the place after a record
-abbrev pub located : Result (Option (Record × ℕ)) Fault → Result Found Fault
-located (Ok (Some r)) = Ok (found (values r.0) r.1)
-located (Ok None) = Ok end
-located (Err fault) = Err fault
-
 -- of what was found, if anything was
 abbrev pub WhenFound : {A : Type 0} → (A → Type 0) → Result (Option A) Fault → Type 0
 WhenFound P (Ok (Some x)) = P x

@@ -5,30 +5,23 @@ ghost use Rattle.register_log.specs.Fault.{number};
 #[derive(Clone, Copy, PartialEq, Eq, Debug)]
 pub enum Fault {
     // fewer bytes than a header has, or more than a log may have
-    Length,
+    Length = 7,
     // a wrong header field
-    Header,
+    Header = 8,
     // a record that the log's end cuts short
-    Cut,
+    Cut = 9,
     // a tag that no record has
-    Tag,
+    Tag = 10,
     // a field out of its range
-    Range,
+    Range = 11,
     // a padding bit that is set, or bytes after the end
-    Padding,
+    Padding = 12,
 }
 
 impl Fault {
     pub fn number(self) -> u8
         ensures { result ≡ number self }
     {
-        match self {
-            Fault::Length => 7,
-            Fault::Header => 8,
-            Fault::Cut => 9,
-            Fault::Tag => 10,
-            Fault::Range => 11,
-            Fault::Padding => 12,
-        }
+        self as u8
     }
 }

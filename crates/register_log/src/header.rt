@@ -1,6 +1,6 @@
 // The header: the first four bytes of a log.
-ghost use Rattle.std.specs.Prelude.{◌≡◌, if◌then◌else◌, Ok, Err};
-ghost use Rattle.register_log.specs.Header.{length_fits, fields_of, header};
+ghost use Rattle.std.specs.Prelude.{◌≡◌};
+ghost use Rattle.register_log.specs.Header.{header};
 
 use crate::fault::Fault;
 use kind::Kind;
@@ -23,45 +23,20 @@ impl Header {
     pub fn read(log: &[u8]) -> Result<Header, Fault>
         ensures { result ≡ header log.now }
     {
-        let fields = read_fields(log)?;
-        let kind = if fields.kind == 0 {
-            Kind::Rf5c68a
-        } else {
-            Kind::Rf5c164
+        let [first, high, middle, low, records @ ..] = log else {
+            return Err(Fault::Length);
         };
-        if fields.version == 1 && fields.spare == 0 && kind.clock_fits(fields.clock) {
-            Ok(Header {
-                kind,
-                clock: fields.clock,
-            })
+        if records.len() > MOST - LENGTH {
+            return Err(Fault::Length);
+        }
+        let version = first >> 4;
+        let kind = Kind::from(first >> 3 & 1 == 1);
+        let spare = first & 7;
+        let clock = u32::from_be_bytes([0, *high, *middle, *low]);
+        if version == 1 && spare == 0 && kind.clock_fits(clock) {
+            Ok(Header { kind, clock })
         } else {
             Err(Fault::Header)
         }
     }
-}
-
-// The header's fields as they stand.
-#[derive(Clone, Copy)]
-struct Fields {
-    version: u8,
-    kind: u8,
-    spare: u8,
-    clock: u32,
-}
-
-fn read_fields(log: &[u8]) -> Result<Fields, Fault>
-    ensures { result ≡ (if length_fits log.now then Ok (fields_of log.now) else Err Fault.Length) }
-{
-    let [first, high, middle, low, records @ ..] = log else {
-        return Err(Fault::Length);
-    };
-    if records.len() > MOST - LENGTH {
-        return Err(Fault::Length);
-    }
-    Ok(Fields {
-        version: first >> 4,
-        kind: first >> 3 & 1,
-        spare: first & 7,
-        clock: u32::from_be_bytes([0, *high, *middle, *low]),
-    })
 }

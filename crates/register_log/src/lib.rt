@@ -1,10 +1,12 @@
 // Register logs: what was written to a sound chip, and when.
 #![tactic(auto)]
 
+mod bit_reader;
+mod bit_writer;
 pub mod fault;
-mod field;
 pub mod header;
 pub mod reader;
 pub mod record;
 pub mod recording;
 pub mod refusal;
+mod tag;

@@ -1,25 +1,26 @@
 // Recordings: logs that are being written.
-ghost use Rattle.std.specs.Prelude.{◌≡◌, ◌+◌, ◌*◌, ◌≤◌, true, List, [], ◌∷◌, ◌++◌, length, IfOk, Ok, Err, MatchResult};
+ghost use Rattle.std.specs.Prelude.{◌≡◌, ◌*◌, ◌≤◌, true, List, [], ◌∷◌, ◌++◌, length, IfOk, Ok, Err, MatchResult};
 ghost use Rattle.outcome.specs.Outcome.{granted, kept};
 ghost use Rattle.register_log.specs.Contents.{Whole};
-ghost use Rattle.register_log.specs.Fields.{span, written};
-ghost use Rattle.register_log.specs.Header.{header_fields, header_fits, records_start};
-ghost use Rattle.register_log.specs.Record.{Entry, values, fits, fields, block};
+ghost use Rattle.register_log.specs.Fields.{written};
+ghost use Rattle.register_log.specs.Header.{most, header_fields, header_fits, records_start};
+ghost use Rattle.register_log.specs.Record.{Entry, values, fits, fields};
 ghost use Rattle.register_log.specs.Recording.{state, begun, added, after, log_length, roomy, end_fields};
+ghost use Rattle.register_log.specs.BitWriter.{Wrote};
 ghost use Rattle.register_log.specs.declared.header.Header.{Header as HeaderValue};
 
+use crate::bit_writer::BitWriter;
 use crate::fault::Fault;
-use crate::field;
 use crate::header::{Header, MOST, RECORDS};
-use crate::record::Record;
+use crate::record::{ADDRESS_BITS, BYTE_BITS, LENGTH_BITS, OFFSET_BITS, Record, TICKS_BITS};
 use crate::refusal::Refusal;
-use kind::Kind;
+use crate::tag::{self, Tag};
 
 // A log that is being written into a buffer, which is lent at each call. The records so far end at the place.
 // A recording is closed or abandoned, and cannot be let go otherwise.
 pub struct Recording {
     place: usize,
-    ghost short: { place ≤ 134217728 },
+    ghost short: { place ≤ 8 * most },
 }
 
 impl Recording {
@@ -31,7 +32,7 @@ impl Recording {
         ensures whole { IfOk result (λ recording. Whole (state recording.place buffer.new) header []) }
     {
         if !header.kind.clock_fits(header.clock) {
-            return Err(Refusal::Log(Fault::Header));
+            return Err(Fault::Header.into());
         }
         if !has_room(buffer.len(), RECORDS) {
             return Err(Refusal::NoRoom);
@@ -40,12 +41,15 @@ impl Recording {
     }
 
     fn start(header: Header, buffer: &mut [u8]) -> Recording
-        requires { (header_fits header ≡ true) × (roomy (length buffer.old) records_start ≡ true) }
+        requires fits { header_fits header ≡ true }
+        requires room { roomy (length buffer.old) records_start ≡ true }
         ensures place { result.place ≡ records_start }
         ensures buffer { buffer.new ≡ written buffer.old 0 (header_fields header ++ end_fields) }
         ensures whole { Whole (state result.place buffer.new) header [] }
     {
-        write_header(buffer, header);
+        let mut writer = BitWriter { buffer, place: 0 };
+        write_header(&mut writer, header);
+        writer.put(tag::BITS, Tag::End as u32);
         Recording { place: RECORDS }
     }
 
@@ -60,27 +64,32 @@ impl Recording {
             Whole (state self.new.place buffer.new) h (entries ++ values «record».now ∷ [])) }
     {
         if !record.fits() {
-            return Err(Refusal::Log(Fault::Range));
+            return Err(Fault::Range.into());
         }
-        let end = self.place + record.width(self.place);
-        if !has_room(buffer.len(), end) {
+        if !has_room(buffer.len(), self.place + record.width(self.place)) {
             return Err(Refusal::NoRoom);
         }
-        self.put(record, end, buffer);
+        self.put(record, buffer);
         Ok(())
     }
 
-    // Writes a record that ends at a place, and the end after it.
-    fn put(&mut self, record: &Record<'_>, end: usize, buffer: &mut [u8])
-        requires { (fits (values «record».now) ≡ true) × ((end ≡ after self.old.place (values «record».now)) × (roomy (length buffer.old) end ≡ true)) }
-        ensures place { self.new.place ≡ end }
+    // Writes a record, and the end after it.
+    fn put(&mut self, record: &Record<'_>, buffer: &mut [u8])
+        requires fits { fits (values «record».now) ≡ true }
+        requires room { roomy (length buffer.old) (after self.old.place (values «record».now)) ≡ true }
+        ensures place { self.new.place ≡ after self.old.place (values «record».now) }
         ensures buffer { buffer.new
             ≡ written buffer.old self.old.place (fields self.old.place (values «record».now) ++ end_fields) }
         ensures whole { (h : HeaderValue) (entries : List Entry) → Whole (state self.old.place buffer.old) h entries →
             Whole (state self.new.place buffer.new) h (entries ++ values «record».now ∷ []) }
     {
-        write_record(buffer, self.place, record);
-        self.place = end;
+        let mut writer = BitWriter {
+            buffer,
+            place: self.place,
+        };
+        write_record(&mut writer, record);
+        self.place = writer.place;
+        writer.put(tag::BITS, Tag::End as u32);
     }
 
     // The length of the log in bytes.
@@ -88,7 +97,7 @@ impl Recording {
         ensures { result ≡ log_length self.place }
     {
         let Recording { place } = self;
-        (place + 3 + 7) / 8
+        log_length(place)
     }
 
     pub fn abandon(self) {
@@ -98,76 +107,60 @@ impl Recording {
 
 // Whether a log whose records end at a place fits a buffer, and is none too long.
 fn has_room(capacity: usize, place: usize) -> bool
-    requires { place ≤ 268435456 }
+    requires { place ≤ 16 * most }
     ensures { result ≡ roomy capacity place }
 {
-    let length = (place + 3 + 7) / 8;
+    let length = log_length(place);
     length <= capacity && length <= MOST
 }
 
-fn write_header(buffer: &mut [u8], header: Header)
-    requires { (5 ≤ length buffer.old) × (header.clock ≤ 12520000) }
-    ensures { buffer.new ≡ written buffer.old 0 (header_fields header ++ end_fields) }
+// How many bytes a log has whose records end at a place.
+fn log_length(place: usize) -> usize
+    requires { place ≤ 16 * most }
+    ensures { result ≡ log_length place }
 {
-    let kind = match header.kind {
-        Kind::Rf5c68a => 0,
-        Kind::Rf5c164 => 1,
-    };
-    field::write(
-        buffer,
-        0,
-        &[(4, 1), (1, kind), (3, 0), (24, header.clock), (3, 0)],
-    );
+    (place + tag::BITS).div_ceil(8)
 }
 
-// Writes a record and the end after it.
-fn write_record(buffer: &mut [u8], place: usize, record: &Record<'_>)
-    requires { (fits (values «record».now) ≡ true) × ((place ≤ 134217728) × (place + span (fields place (values «record».now)) + 3 ≤ 8 * length buffer.old)) }
-    ensures { buffer.new ≡ written buffer.old place (fields place (values «record».now) ++ end_fields) }
+fn write_header(writer: &mut BitWriter<'_>, header: Header)
+    requires start { writer.old.place ≡ 0 }
+    requires room { 5 ≤ length writer.old.buffer.now }
+    requires clock { header.clock ≤ 12520000 }
+    ensures { Wrote writer.old writer.new (header_fields header) }
+{
+    writer.put(4, 1);
+    writer.put(1, u32::from(bool::from(header.kind)));
+    writer.put(3, 0);
+    writer.put(24, header.clock);
+}
+
+fn write_record(writer: &mut BitWriter<'_>, record: &Record<'_>)
+    requires fits { fits (values «record».now) ≡ true }
+    requires room { after writer.old.place (values «record».now) ≤ 8 * length writer.old.buffer.now }
+    requires small { writer.old.place ≤ 8 * most }
+    ensures { Wrote writer.old writer.new (fields writer.old.place (values «record».now)) }
 {
     match *record {
         Record::Register { address, byte } => {
-            field::write(
-                buffer,
-                place,
-                &[
-                    (3, 1),
-                    (4, u32::from(address)),
-                    (8, u32::from(byte)),
-                    (3, 0),
-                ],
-            );
+            writer.put(tag::BITS, Tag::Register as u32);
+            writer.put(ADDRESS_BITS, u32::from(address));
+            writer.put(BYTE_BITS, u32::from(byte));
         }
         Record::Window { offset, byte } => {
-            field::write(
-                buffer,
-                place,
-                &[
-                    (3, 2),
-                    (12, u32::from(offset)),
-                    (8, u32::from(byte)),
-                    (3, 0),
-                ],
-            );
+            writer.put(tag::BITS, Tag::Window as u32);
+            writer.put(OFFSET_BITS, u32::from(offset));
+            writer.put(BYTE_BITS, u32::from(byte));
         }
         Record::Wait { ticks } => {
-            field::write(buffer, place, &[(3, 3), (16, u32::from(ticks)), (3, 0)]);
+            writer.put(tag::BITS, Tag::Wait as u32);
+            writer.put(TICKS_BITS, u32::from(ticks));
         }
-        Record::Block { offset, bytes } => write_block(buffer, place, offset, bytes),
+        Record::Block { offset, bytes } => {
+            writer.put(tag::BITS, Tag::Block as u32);
+            writer.put(OFFSET_BITS, u32::from(offset));
+            writer.put(LENGTH_BITS, (bytes.len() - 1) as u32);
+            writer.align();
+            writer.bytes(bytes);
+        }
     }
-}
-
-fn write_block(buffer: &mut [u8], place: usize, offset: u16, bytes: &[u8])
-    requires { (fits (block offset bytes.now) ≡ true) × ((place ≤ 134217728) × (place + span (fields place (block offset bytes.now)) + 3 ≤ 8 * length buffer.old)) }
-    ensures { buffer.new ≡ written buffer.old place (fields place (block offset bytes.now) ++ end_fields) }
-{
-    let last = (bytes.len() - 1) as u32;
-    field::write(
-        buffer,
-        place,
-        &[(3, 4), (12, u32::from(offset)), (12, last)],
-    );
-    let start = (place + 27 + 7) / 8 * 8;
-    field::copy(buffer, start, bytes);
-    field::write(buffer, start + 8 * bytes.len(), &[(3, 0)]);
 }

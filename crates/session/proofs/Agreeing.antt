@@ -1,20 +1,18 @@
 -- A stem answers as its mix does, but for the voices outside its group.
-use Rattle.std.proofs.Common.{◌≡◌, ℕ, ◌+◌, ◌-◌, ◌/◌, ◌%◌, ◌<◌, ◌≤◌, Bool, true, false, cond, not, eqb, ltb, leb, List, length, get_or, Ok, Err, Result, sym, refl, ap, ◌∙◌, subst, zero-add, arith}
+use Rattle.std.proofs.Common.{◌≡◌, ℕ, ◌+◌, ◌-◌, ◌/◌, ◌%◌, ◌<◌, ◌≤◌, Bool, true, false, cond, not, eqb, ltb, List, length, get_or, Option, Some, Ok, Result, sym, refl, ap, ◌∙◌, subst, zero-add, arith}
 use lib.ListN.{get_or-map}
 use Rattle.std.proofs.lemmas.List.{length-map}
 use Rattle.std.proofs.lemmas.Bool.{and_parts, leb-true, ltb-true}
-use Rattle.wave.specs.Outcome as outcome
 use Rattle.voice.specs.Voice.{fresh, silent, place}
 use Rattle.voice.specs.declared.frame.Converter.{Converter}
 use Rattle.voice.specs.declared.voice.Voice.{Voice}
 use Rattle.kind.specs.declared.Kind.{Kind}
-use Rattle.kind.specs.declared.Kind.TheVariants.{Rf5c68a, Rf5c164}
 use Rattle.chip.specs.Control.{bit}
 use Rattle.chip.specs.Registers.{each, stands, byte_of, position_byte}
-use Rattle.chip.specs.Port.{State as ChipState, memory_size, window_start, last_address, positions_start, positions_end, has_positions, write, read, tick}
+use Rattle.chip.specs.Port.{State as ChipState, memory_size, window_start, last_address, positions_start, positions_end, has_positions, read}
 use Rattle.chip.specs.declared.refusal.Refusal.{Refusal}
 use Rattle.chip.proofs.Each.{each_at, each_length}
-use Rattle.calls.specs.Calls.{grant, byte, answer}
+use Rattle.calls.specs.Calls.{read_answer, answer}
 use Rattle.calls.specs.declared.Call.{Call as ChipCall}
 use Rattle.calls.specs.declared.Call.TheVariants.{Reset, Write, Read, Inspect, Tick, Tell}
 use Rattle.session.specs.Station.{Model, tried}
@@ -26,9 +24,9 @@ use Rattle.session.specs.declared.call.Call.{Call}
 use Rattle.session.specs.declared.call.Call.TheVariants.{Chip, Step}
 use Rattle.session.proofs.Bits.{bit_outside}
 use Rattle.session.proofs.Keeping.{own, chip_of, step_of}
-use Rattle.session.proofs.Muting.{mapped, veil, muting_chip, write-muting, tick-muting}
+use Rattle.session.proofs.Muting.{veil, muting_chip, write-muting, tick-muting}
 
-agrees_by : {g : ℕ} {call : Call} {x y : Answer} → x ≡ y → Agrees g call x y
+agrees_by : {g : ℕ} {call : Call} {x y : Option Answer} → x ≡ y → Agrees g call x y
 agrees_by {g} {call} {x} {y} e = subst (λ z. Agrees g call x z) e same
 
 module _ (g : ℕ) (d : Converter) where
@@ -38,10 +36,6 @@ module _ (g : ℕ) (d : Converter) where
       let within : k < length vs = omega arith in
       let clear : bit (outside g) (0 + k) ≡ false = ap (bit (outside g)) (zero-add k) ∙ bit_outside g k l ∙ ap not h in
       each_at (veil (outside g) d) 0 k vs within ∙ ap (λ t. cond t (silent (get_or vs k fresh)) (get_or vs k fresh)) clear
-
-  granted_same : {A : Type 0} (f : A → A) (r : Result A Refusal) → outcome.granted (mapped f r) ≡ outcome.granted r
-  granted_same f (Ok x) = refl
-  granted_same f (Err e) = refl
 
   -- Reads
 
@@ -53,14 +47,12 @@ module _ (g : ℕ) (d : Converter) where
   both a true p q = p refl
   both a false p q = q refl
 
-  told : (a : ℕ) (x y : Result ℕ Refusal) → Both a x y → Agrees g (Chip (Read a)) (answered.Chip (byte x)) (answered.Chip (byte y))
+  told : (a : ℕ) (x y : Result ℕ Refusal) → Both a x y → Agrees g (Chip (Read a)) (Some (answered.Chip (read_answer x))) (Some (answered.Chip (read_answer y)))
   told a x y equal = same
   told a x y (elsewhere l u h) = other_position l u h
 
   at_positions : (kind : Kind) (a : ℕ) → has_positions kind a ≡ true → (positions_start ≤ a) × (a < positions_end)
-  at_positions Rf5c68a a h = absurd (let z : ◌≡◌ {A = ℕ} 0 1 = ap (λ b. cond b 0 1) (sym h) in omega arith)
-  at_positions Rf5c164 a h =
-      let p = and_parts (leb positions_start a) (ltb a positions_end) h in (leb-true positions_start a p.0, ltb-true a positions_end p.1)
+  at_positions kind a h = grind (arith, and_parts, leb-true, ltb-true)
 
   position_agrees :
       (a : ℕ) (vs : List Voice) → length vs ≡ 8 → positions_start ≤ a → a < positions_end → (t : Bool) → holds g ((a - positions_start) / 2) ≡ t →
@@ -75,25 +67,22 @@ module _ (g : ℕ) (d : Converter) where
       both a (eqb (length c.memory.bytes) memory_size)
       (λ _. both a (ltb last_address a) (λ _. equal)
       (λ _. both a (ltb a window_start)
-      (λ _. both a (has_positions c.registers.kind a)
-      (λ e. let p = at_positions c.registers.kind a e in position_agrees a c.registers.voices eight p.0 p.1 (holds g ((a - positions_start) / 2)) refl)
+      (λ _. both a (has_positions c.registers.setup.kind a)
+      (λ e. let p = at_positions c.registers.setup.kind a e in position_agrees a c.registers.voices eight p.0 p.1 (holds g ((a - positions_start) / 2)) refl)
       (λ _. equal))
       (λ _. equal)))
       (λ _. equal)
 
-  -- AllByRecursion calls of a chip
+  -- Calls of a chip
 
   pub call_agrees :
       (call : ChipCall) (n : ℕ) (c : ChipState) → length c.registers.voices ≡ 8 →
-      Agrees g (Chip call) (answered.Chip (answer call n (muting_chip (outside g) d c))) (answered.Chip (answer call n c))
+      Agrees g (Chip call) (Some (answered.Chip (answer call n (muting_chip (outside g) d c)))) (Some (answered.Chip (answer call n c)))
   call_agrees Reset n c eight = same
-  call_agrees (Write a b) n c eight =
-      agrees_by (ap (λ x. answered.Chip (grant x)) (ap outcome.granted (write-muting (outside g) d c a b) ∙ granted_same (muting_chip (outside g) d) (write c a b)))
+  call_agrees (Write a b) n c eight = agrees_by (grind (arith, write-muting (outside g) d c a b))
   call_agrees (Read a) n c eight = told a _ _ (read_agrees c a eight)
   call_agrees (Inspect o) n c eight = same
-  call_agrees Tick n c eight =
-      agrees_by
-      (ap (λ x. answered.Chip (grant x)) (ap outcome.granted (tick-muting (outside g) d c.memory.bytes c.registers) ∙ granted_same (muting (outside g) d) (tick c.memory.bytes c.registers)))
+  call_agrees Tick n c eight = agrees_by (grind (arith, tick-muting (outside g) d c.memory.bytes c.registers))
   call_agrees Tell n c eight =
       let vs = c.registers.voices in
       let ws = each (veil (outside g) d) 0 vs in
@@ -112,5 +101,5 @@ module _ (mix : Model) (g : ℕ) (s : Model) (eight : length mix.chip.registers.
   answers_agree (Chip call) =
       let e : answer call (length s.buffer) s.chip ≡ answer call (length mix.buffer) (muting_chip (outside g) (own s) mix.chip) =
       ap (λ n. answer call n s.chip) w.buffer ∙ ap (answer call (length mix.buffer)) (chip_of mix g s w) in
-      subst (λ x. Agrees g (Chip call) (answered.Chip x) (tried (Chip call) mix).answer) (sym e) (call_agrees g (own s) call (length mix.buffer) mix.chip eight)
-  answers_agree Step = agrees_by (ap (λ t. answered.Step t.answer) (step_of mix g s w))
+      subst (λ x. Agrees g (Chip call) (Some (answered.Chip x)) (tried (Chip call) mix).answer) (sym e) (call_agrees g (own s) call (length mix.buffer) mix.chip eight)
+  answers_agree Step = agrees_by (ap (λ t. Some (answered.Step t.answer)) (step_of mix g s w))

@@ -1,14 +1,12 @@
 -- Stems stay stems of their mix, whatever is tried on all of them.
-use Rattle.std.proofs.Common.{◌≡◌, ℕ, zero, suc, ◌+◌, ◌<◌, Bool, true, false, cond, eqb, ltb, List, [], ◌∷◌, map, length, Ok, Err, sym, refl, ap, ◌∙◌, ap₂, lit<}
+use Rattle.std.proofs.Common.{◌≡◌, ℕ, zero, suc, ◌+◌, ◌<◌, List, [], ◌∷◌, map, length, sym, refl, ap, ◌∙◌, ap₂, lit<, arith}
 use lib.Bits.{xor_lt}
 use Rattle.std.specs.List.{AllByRecursion}
-use Rattle.wave.specs.Outcome.{kept}
 use Rattle.voice.specs.declared.frame.Converter.{Converter}
 use Rattle.kind.specs.declared.Kind.{Kind}
-use Rattle.chip.specs.Control.{window_size, place_behind}
+use Rattle.chip.specs.declared.registers.Setup.{Setup}
 use Rattle.chip.specs.Registers.{made}
-use Rattle.chip.specs.Port.{State as ChipState, memory_size, shown}
-use Rattle.chip.specs.declared.refusal.Refusal.{Refusal}
+use Rattle.chip.specs.Port.{State as ChipState, shown}
 use Rattle.calls.specs.Calls.{after, buffered}
 use Rattle.calls.specs.declared.Call.TheVariants.{Reset, Write, Read, Inspect, Tick, Tell}
 use Rattle.calls.specs.declared.Call.{Call as ChipCall}
@@ -24,7 +22,7 @@ outside_byte g h = xor_lt 8 g 255 h (lit< tt)
 
 -- a stem's chip
 abbrev pub own : Model → Converter
-own s = s.chip.registers.converter
+own s = s.chip.registers.setup.converter
 
 pub chip_of : (mix : Model) (g : ℕ) (s : Model) → StemOf mix g s → s.chip ≡ muting_chip (outside g) (own s) mix.chip
 chip_of mix g s w = ap₂ (λ r m. record { registers = r; memory = m }) w.registers w.memory
@@ -32,9 +30,9 @@ chip_of mix g s w = ap₂ (λ r m. record { registers = r; memory = m }) w.regis
 -- what such a chip has
 from_chip :
     (m : ℕ) (d : Converter) (c e : ChipState) → c ≡ muting_chip m d e →
-    (c.memory ≡ e.memory) × (c.registers ≡ muting m c.registers.converter e.registers)
+    (c.memory ≡ e.memory) × (c.registers ≡ muting m c.registers.setup.converter e.registers)
 from_chip m d c e h =
-    let same : c.registers.converter ≡ d = ap (λ x. x.registers.converter) h in
+    let same : c.registers.setup.converter ≡ d = ap (λ x. x.registers.setup.converter) h in
     (ap (λ x. x.memory) h, ap (λ x. x.registers) h ∙ ap (λ k. muting m k e.registers) (sym same))
 
 -- buffers keep their length
@@ -43,18 +41,11 @@ length-shown : (bytes : List ℕ) (place n : ℕ) → length (shown bytes place 
 length-shown bytes place zero = refl
 length-shown bytes place (suc n) = ap suc (length-shown bytes (place + 1) n)
 
-kept_length : (t u : Bool) (b x : List ℕ) (e f : Refusal) → length x ≡ length b → length (kept b (cond t (cond u (Err e) (Ok x)) (Err f))) ≡ length b
-kept_length true true b x e f h = refl
-kept_length true false b x e f h = h
-kept_length false u b x e f h = refl
-
 pub buffer_length : (call : ChipCall) (c : ChipState) (b : List ℕ) → length (buffered call c b) ≡ length b
 buffer_length Reset c b = refl
 buffer_length (Write a x) c b = refl
 buffer_length (Read a) c b = refl
-buffer_length (Inspect o) c b =
-    kept_length (eqb (length c.memory.bytes) memory_size) (ltb window_size (o + length b)) b (shown c.memory.bytes (place_behind c.registers.control o) (length b)) _ _
-    (length-shown c.memory.bytes (place_behind c.registers.control o) (length b))
+buffer_length (Inspect o) c b = grind (arith, length-shown)
 buffer_length Tick c b = refl
 buffer_length Tell c b = refl
 
@@ -109,7 +100,8 @@ new_stem :
 new_stem kind mix g s small a b em eb =
     let m = outside g in
     let d = own s in
-    let e : made kind d m ≡ muting m d (made kind (own mix) 0) = reset-muting m d (outside_byte g small) (made kind (own mix) 0) in
+    let fresh : Setup = record { kind = kind; converter = own mix; mutes = 0 } in
+    let e : made (record { kind = kind; converter = d; mutes = m }) ≡ muting m d (made fresh) = reset-muting m d (outside_byte g small) (made fresh) in
     record {
       log = b.plays;
       player = b.player ∙ sym a.player;

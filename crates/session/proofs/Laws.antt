@@ -1,17 +1,17 @@
 -- The laws about a mix and its stems.
-use Rattle.std.proofs.Common.{◌≡◌, ℕ, Bool, true, false, cond, List, [], ◌∷◌, map, length, ℤ, Ok, Err, Result, sym, refl, ap, ◌∙◌, arith}
+use Rattle.std.proofs.Common.{◌≡◌, ℕ, true, List, [], ◌∷◌, map, length, ℤ, Some, Result, sym, refl, ap, ◌∙◌, arith}
 use Rattle.std.specs.List.{AllByRecursion}
-use Rattle.wave.specs.Outcome as outcome
-use Rattle.wave.specs.Outcome.{kept}
-use Rattle.voice.specs.Frame.{sum, contributions}
+use Rattle.std.proofs.lemmas.Bool.{false≢true}
+use Rattle.outcome.specs.Outcome as outcome
+use Rattle.outcome.specs.Outcome.{kept}
+use Rattle.voice.specs.Frame.{sum, contributions, Frame}
 use Rattle.voice.specs.declared.frame.Converter.TheVariants.{Bits16}
-use Rattle.voice.specs.declared.frame.Frame.{Frame}
-use Rattle.voice.specs.declared.frame.SideName.{SideName}
-use Rattle.voice.specs.declared.frame.SideName.TheVariants.{Left, Right}
+use Rattle.voice.specs.declared.stereo.SideName.{SideName}
+use Rattle.voice.specs.declared.stereo.SideName.TheVariants.{Left, Right}
 use Rattle.chip.specs.Port.{State as ChipState, inspect}
 use Rattle.chip.specs.Registers.{each}
 use Rattle.chip.specs.declared.refusal.Refusal.{Refusal}
-use Rattle.calls.specs.Calls.{grant}
+use Rattle.calls.specs.Calls.{no_reply}
 use Rattle.calls.specs.declared.Call.TheVariants.{Reset, Write, Read, Inspect, Tick, Tell}
 use Rattle.session.specs.Station.{Model, tried}
 use Rattle.session.specs.Stems.{Divides, outside, Each, StemOf, MixAndStems}
@@ -24,9 +24,6 @@ use Rattle.session.proofs.Keeping.{chip_of, stems_tried}
 use Rattle.session.proofs.Muting.{veil}
 use Rattle.session.proofs.Ticks.{frame_now, frame_filled, ticks_alike, tried_eight}
 use Rattle.session.proofs.Totals.{groups_sum, stations_sum}
-
-no : {A : Type 0} → ◌≡◌ {A = Bool} false true → A
-no h = absurd (let z : ◌≡◌ {A = ℕ} 0 1 = ap (λ b. cond b 1 0) h in omega arith)
 
 -- Each group and its station
 
@@ -56,10 +53,6 @@ each_both R Q [] (s ∷ ss) v w = v
 each_both R Q (g ∷ gs) [] v w = v
 each_both R Q (g ∷ gs) (s ∷ ss) v w = ((v.0, w.0), each_both R Q gs ss v.1 w.1)
 
-map-map : (f h : Model → Model) (xs : List Model) → map f (map h xs) ≡ map (λ x. f (h x)) xs
-map-map f h [] = refl
-map-map f h (x ∷ xs) = ap (λ r. f (h x) ∷ r) (map-map f h xs)
-
 -- One moment
 
 pub level : (groups : List ℕ) (mix : Model) (stems : List Model) → MixAndStems groups mix stems → Level groups mix stems
@@ -79,9 +72,8 @@ still groups div call mix stems w =
     }
 
 -- what an accepted inspection shows
-shown_same : (b c : List ℕ) (o : Result (List ℕ) Refusal) → granted (answered.Chip (grant (outcome.granted o))) ≡ true → kept b o ≡ kept c o
-shown_same b c (Ok x) h = refl
-shown_same b c (Err e) h = no h
+shown_same : (b c : List ℕ) (o : Result (List ℕ) Refusal) → granted (Some (answered.Chip (no_reply o))) ≡ true → kept b o ≡ kept c o
+shown_same b c o h = grind arith
 
 inspected : (mix : Model) (g : ℕ) (s : Model) (o : ℕ) → StemOf mix g s → inspect s.chip.memory.bytes s.chip.registers o (length s.buffer) ≡ inspect mix.chip.memory.bytes mix.chip.registers o (length mix.buffer)
 inspected mix g s o w =
@@ -89,15 +81,15 @@ inspected mix g s o w =
     ∙ ap (inspect mix.chip.memory.bytes mix.chip.registers o) w.buffer
 
 buffers_same : (mix : Model) (g : ℕ) (s : Model) (call : Call) → inspects call ≡ true → granted (tried call mix).answer ≡ true → StemOf mix g s → (tried call s).buffer ≡ (tried call mix).buffer
-buffers_same mix g s (Chip Reset) i h w = no i
-buffers_same mix g s (Chip (Write a b)) i h w = no i
-buffers_same mix g s (Chip (Read a)) i h w = no i
+buffers_same mix g s (Chip Reset) i h w = absurd (false≢true i)
+buffers_same mix g s (Chip (Write a b)) i h w = absurd (false≢true i)
+buffers_same mix g s (Chip (Read a)) i h w = absurd (false≢true i)
 buffers_same mix g s (Chip (Inspect o)) i h w =
     ap (kept s.buffer) (inspected mix g s o w)
     ∙ shown_same s.buffer mix.buffer (inspect mix.chip.memory.bytes mix.chip.registers o (length mix.buffer)) h
-buffers_same mix g s (Chip Tick) i h w = no i
-buffers_same mix g s (Chip Tell) i h w = no i
-buffers_same mix g s Step i h w = no i
+buffers_same mix g s (Chip Tick) i h w = absurd (false≢true i)
+buffers_same mix g s (Chip Tell) i h w = absurd (false≢true i)
+buffers_same mix g s Step i h w = absurd (false≢true i)
 
 -- totals of one side
 module _ (side : SideName) (total : Frame → ℤ) (is : (s : Model) → total (frame_now s) ≡ sum (contributions side s.chip.registers.voices)) where

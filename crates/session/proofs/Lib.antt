@@ -1,4 +1,3 @@
-pub mod Stations
 pub mod Bits
 pub mod Muting
 pub mod Keeping

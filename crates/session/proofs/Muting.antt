@@ -1,27 +1,24 @@
 -- What a call does to a chip it does to one that mutes more voices.
-use Rattle.std.proofs.Common.{◌≡◌, ℕ, zero, suc, ◌+◌, ◌-◌, ◌<◌, Bool, true, false, cond, not, ◌&&◌, ◌||◌, eqb, ltb, leb, List, [], ◌∷◌, length, replicate, Ok, Err, Result, sym, refl, ap, ◌∙◌, ap₂}
+use Rattle.std.proofs.Common.{◌≡◌, ℕ, zero, suc, ◌+◌, ◌<◌, Bool, true, false, cond, not, ◌&&◌, ◌||◌, eqb, ltb, List, [], ◌∷◌, replicate, Ok, Err, Result, sym, refl, ap, arith, ◌∙◌, ap₂}
 use lib.Bits.{bit_or}
-use Rattle.wave.specs.Outcome.{kept}
-use Rattle.wave.specs.Memory.{Memory, store}
-use Rattle.wave.specs.declared.memory.Refusal.{Refusal as MemoryRefusal}
+use Rattle.outcome.specs.Outcome.{kept}
 use Rattle.voice.specs.Voice.{fresh, silent, sounded}
 use Rattle.voice.specs.Voice as one
 use Rattle.voice.specs.declared.frame.Converter.{Converter}
 use Rattle.voice.specs.declared.voice.Voice.{Voice}
-use Rattle.chip.specs.Control.{bit, place_behind}
+use Rattle.chip.specs.Control.{bit}
 use Rattle.chip.specs.Registers.{each, edited, registered, reset, sounds, ticked, with_voices, with_channel}
-use Rattle.chip.specs.Port.{State as ChipState, memory_size, window_start, last_address, last_register, with_registers, with_memory, in_memory, write, tick}
+use Rattle.chip.specs.Port.{State as ChipState, with_registers, write, tick}
 use Rattle.chip.specs.declared.refusal.Refusal.{Refusal}
 use Rattle.chip.specs.declared.registers.Registers.{Registers}
 use Rattle.chip.proofs.Each.{each-each, each_alike}
 use Rattle.calls.specs.Calls.{after}
 use Rattle.calls.specs.declared.Call.{Call}
 use Rattle.calls.specs.declared.Call.TheVariants.{Reset, Write, Read, Inspect, Tick, Tell}
-use Rattle.register_log.specs.Header.{header, records_start}
-use Rattle.register_log.specs.Reading.{Found, end, found, decode}
-use Rattle.register_log.specs.Record.{Entry, register, window, wait, block}
+use Rattle.register_log.specs.Reading.{Found}
+use Rattle.register_log.specs.Record.{Entry}
 use Rattle.register_log.specs.declared.fault.Fault.{Fault as LogFault}
-use Rattle.player.specs.Step.{Stepped, unless_refused, put, obeyed, taken, for_kind, opened, waited, by_state}
+use Rattle.player.specs.Step.{Stepped, unless_refused, put, obeyed, taken, opened, by_state}
 use Rattle.player.specs.declared.player.State.{State}
 use Rattle.player.specs.declared.player.State.TheVariants.{Between, Waiting, Ended, Faulted}
 use Rattle.session.specs.Stems.{muting}
@@ -62,10 +59,8 @@ module _ (m : ℕ) (d : Converter) where
   tick_swap e v true true false = refl
   tick_swap e v true false true = refl
   tick_swap e v true false false = refl
-  tick_swap e v false true true = refl
-  tick_swap e v false true false = refl
-  tick_swap e v false false true = refl
-  tick_swap e v false false false = refl
+  tick_swap e v false b true = refl
+  tick_swap e v false b false = refl
 
   pub ticked-muting : (e : List ℕ) (r : Registers) → ticked e (muting m d r) ≡ muting m d (ticked e r)
   ticked-muting e r =
@@ -78,10 +73,7 @@ module _ (m : ℕ) (d : Converter) where
   edit_swap :
       (a b : ℕ) (v : Voice) (here t : Bool) →
       cond here (edited a b (cond t (silent v) v)) (cond t (silent v) v) ≡ cond t (silent (cond here (edited a b v) v)) (cond here (edited a b v) v)
-  edit_swap a b v true true = refl
-  edit_swap a b v true false = refl
-  edit_swap a b v false true = refl
-  edit_swap a b v false false = refl
+  edit_swap a b v here t = grind arith
 
   pub registered-muting : (r : Registers) (a b : ℕ) → registered (muting m d r) a b ≡ muting m d (registered r a b)
   registered-muting r a b =
@@ -91,31 +83,20 @@ module _ (m : ℕ) (d : Converter) where
       (λ k v. edit_swap a b v (eqb k r.control.selected) (bit m k))
       r.voices))
       (through (muting m d) (eqb a 7) refl
-      (through (muting m d) (eqb a 8) (ap (with_channel (muting m d r)) (sym (or_assoc b r.mutes m))) refl))
-
-  stored_muting : (c : ChipState) (r : Result Memory MemoryRefusal) → with_memory (muting_chip c) (in_memory r) ≡ mapped muting_chip (with_memory c (in_memory r))
-  stored_muting c (Ok e) = refl
-  stored_muting c (Err r) = refl
+      (through (muting m d) (eqb a 8) (ap (with_channel (muting m d r)) (sym (or_assoc b r.setup.mutes m))) refl))
 
   pub write-muting : (c : ChipState) (a b : ℕ) → write (muting_chip c) a b ≡ mapped muting_chip (write c a b)
-  write-muting c a b =
-      through (mapped muting_chip) (eqb (length c.memory.bytes) memory_size)
-      (through (mapped muting_chip) (ltb last_address a) refl
-      (through (mapped muting_chip) (ltb a window_start)
-      (through (mapped muting_chip) (leb a last_register) (ap (λ k. Ok (with_registers c k)) (registered-muting c.registers a b)) refl)
-      (stored_muting c (store c.memory (place_behind c.registers.control (a - window_start)) b))))
-      refl
+  write-muting c a b = grind (arith, registered-muting c.registers a b)
 
   pub tick-muting : (e : List ℕ) (r : Registers) → tick e (muting m d r) ≡ mapped (muting m d) (tick e r)
-  tick-muting e r = through (mapped (muting m d)) (eqb (length e) memory_size) (ap Ok (ticked-muting e r)) refl
+  tick-muting e r = grind (arith, ticked-muting e r)
 
   -- The player
 
   refused-muting :
       (next : ChipState → Stepped) → ((e : ChipState) → next (muting_chip e) ≡ muting_stepped (next e)) → (c : ChipState) (place bit address : ℕ) (r : Result ChipState Refusal) →
       unless_refused next (muting_chip c) place bit address (mapped muting_chip r) ≡ muting_stepped (unless_refused next c place bit address r)
-  refused-muting next ih c place bit address (Ok e) = ih e
-  refused-muting next ih c place bit address (Err r) = refl
+  refused-muting next ih c place bit address r = grind (arith, ih)
 
   put-muting : (bytes : List ℕ) (address bit place : ℕ) (c : ChipState) → put bytes address bit place (muting_chip c) ≡ muting_stepped (put bytes address bit place c)
   unfolding put
@@ -125,62 +106,42 @@ module _ (m : ℕ) (d : Converter) where
       ∙ refused-muting (put bytes (address + 1) bit place) (put-muting bytes (address + 1) bit place) c place bit address (write c address b)
 
   obeyed-muting : (c : ChipState) (bit place : ℕ) (entry : Entry) → obeyed (muting_chip c) bit place entry ≡ muting_stepped (obeyed c bit place entry)
-  obeyed-muting c bit place (register address byte) = put-muting (byte ∷ []) address bit place c
-  obeyed-muting c bit place (window offset byte) = put-muting (byte ∷ []) (window_start + offset) bit place c
-  obeyed-muting c bit place (wait ticks) = refl
-  obeyed-muting c bit place (block offset payload) = put-muting payload (window_start + offset) bit place c
+  obeyed-muting c bit place entry = grind (arith, put-muting)
 
   taken-muting : (c : ChipState) (place : ℕ) (r : Result Found LogFault) → taken (muting_chip c) place r ≡ muting_stepped (taken c place r)
-  taken-muting c place (Ok end) = refl
-  taken-muting c place (Ok (found entry next)) = obeyed-muting c place next entry
-  taken-muting c place (Err fault) = refl
+  taken-muting c place r = grind (arith, obeyed-muting)
 
   opened-muting : (c : ChipState) (place : ℕ) (r : Result (Unit {0}) LogFault) → opened (muting_chip c) place r ≡ muting_stepped (opened c place r)
-  opened-muting c place (Ok u) = refl
-  opened-muting c place (Err fault) = refl
-
-  waited-muting : (c : ChipState) (place bit left : ℕ) (r : Result Registers Refusal) → waited (muting_chip c) place bit left (mapped (muting m d) r) ≡ muting_stepped (waited c place bit left r)
-  waited-muting c place bit left (Ok r) = refl
-  waited-muting c place bit left (Err e) = refl
+  opened-muting c place r = grind arith
 
   pub step-muting : (log : List ℕ) (c : ChipState) (place : ℕ) (s : State) → by_state log (muting_chip c) place s ≡ muting_stepped (by_state log c place s)
-  step-muting log c place Between =
-      through muting_stepped (ltb place records_start) (opened-muting c place (for_kind c.registers.kind (header log))) (taken-muting c place (decode log place))
-  step-muting log c place (Waiting bit left) =
-      ap (waited (muting_chip c) place bit left) (tick-muting c.memory.bytes c.registers) ∙ waited-muting c place bit left (tick c.memory.bytes c.registers)
+  step-muting log c place Between = grind (arith, opened-muting, taken-muting)
+  step-muting log c place (Waiting bit left) = grind (arith, tick-muting c.memory.bytes c.registers)
   step-muting log c place (Ended bit) = refl
   step-muting log c place (Faulted fault) = refl
 
   -- Resets
 
-  either : {A : Type 0} (t : Bool) (x : A) → cond t x x ≡ x
-  either true x = refl
-  either false x = refl
-
   fresh-muting : (n k : ℕ) → each veil k (replicate n fresh) ≡ replicate n fresh
   fresh-muting zero k = refl
-  fresh-muting (suc n) k = ap₂ {C = List Voice} (λ v vs. v ∷ vs) (either (bit m k) fresh) (fresh-muting n (suc k))
+  fresh-muting (suc n) k = grind (arith, fresh-muting n (suc k))
 
   pub reset-muting : m < 256 → (r : Registers) → reset (muting m d r) ≡ muting m d (reset r)
   reset-muting eight r =
       ap₂ (λ h vs. with_voices (with_channel (reset (muting m d r)) h) vs) (sym (or_full m eight)) (sym (fresh-muting 8 0))
 
   pub kept-muting : (c : ChipState) (r : Result ChipState Refusal) → kept (muting_chip c) (mapped muting_chip r) ≡ muting_chip (kept c r)
-  kept-muting c (Ok e) = refl
-  kept-muting c (Err r) = refl
+  kept-muting c r = grind arith
 
   pub kept_registers : (k : Registers) (r : Result Registers Refusal) → kept (muting m d k) (mapped (muting m d) r) ≡ muting m d (kept k r)
-  kept_registers k (Ok e) = refl
-  kept_registers k (Err r) = refl
+  kept_registers k r = grind arith
 
   -- Calls of the chip
 
   pub after-muting : m < 256 → (call : Call) (c : ChipState) → after call (muting_chip c) ≡ muting_chip (after call c)
   after-muting eight Reset c = ap (with_registers c) (reset-muting eight c.registers)
-  after-muting eight (Write a b) c = ap (kept (muting_chip c)) (write-muting c a b) ∙ kept-muting c (write c a b)
+  after-muting eight (Write a b) c = grind (arith, write-muting c a b)
   after-muting eight (Read a) c = refl
   after-muting eight (Inspect o) c = refl
-  after-muting eight Tick c =
-      ap (with_registers c)
-      (ap (kept (muting m d c.registers)) (tick-muting c.memory.bytes c.registers) ∙ kept_registers c.registers (tick c.memory.bytes c.registers))
+  after-muting eight Tick c = grind (arith, tick-muting c.memory.bytes c.registers)
   after-muting eight Tell c = refl

@@ -1,18 +1,18 @@
 -- Enough steps stop a player, whatever calls stand between them.
-use Rattle.std.proofs.Common.{◌≡◌, ℕ, ◌+◌, ◌-◌, ◌*◌, ◌<◌, ◌≤◌, Bool, true, false, cond, eqb, ltb, leb, ◌⊎◌, List, [], ◌∷◌, ◌++◌, length, Ok, Err, Result, sym, refl, ap, ◌∙◌, inl, inr, ⊎_elim, arith}
-use Rattle.std.proofs.lemmas.Bool.{leb-true, leb-false, le-ltb, lt-ltb, cond_both, cond-true, cond-false, cases_lt}
-use Rattle.chip.specs.Port.{State as ChipState, window_start, write, tick}
+use Rattle.std.proofs.Common.{◌≡◌, ℕ, ◌+◌, ◌-◌, ◌*◌, ◌<◌, ◌≤◌, Bool, true, false, cond, ltb, ◌⊎◌, List, [], ◌∷◌, ◌++◌, length, Some, Ok, Err, Result, sym, refl, ap, ◌∙◌, inl, inr, ⊎_elim, arith}
+use Rattle.std.proofs.lemmas.Bool.{le-ltb, lt-ltb, cond-true, cond-false, cases_lt}
+use Rattle.chip.specs.Port.{State as ChipState, window_start, tick}
 use Rattle.chip.specs.declared.refusal.Refusal.{Refusal}
 use Rattle.chip.specs.declared.registers.Registers.{Registers}
 use Rattle.calls.specs.declared.Call.{Call as ChipCall}
-use Rattle.register_log.specs.Fields.{field, bytes_for}
-use Rattle.register_log.specs.Header.{header, length_fits, records_start}
-use Rattle.register_log.specs.Reading.{Found, end, found, decode, tagged, padded, ends, register_at, window_at, wait_at, payload_at, block_at}
-use Rattle.register_log.specs.Record.{Entry, register, window, wait, block, address_fits, ticks_fit, block_fits}
+use Rattle.register_log.specs.Header.{header, records_start}
+use Rattle.register_log.specs.Reading.{Found, end, found, decode, register_at, window_at, wait_at, payload_at, block_at}
+use Rattle.register_log.specs.Record.{Entry, register, window, wait, block}
 use Rattle.register_log.specs.declared.fault.Fault.{Fault as LogFault}
-use Rattle.register_log.specs.declared.fault.Fault.TheVariants.{Cut}
 use Rattle.register_log.proofs.Fields.{field_below}
-use Rattle.player.specs.Step.{Stand, Stepped, unless_refused, put, taken, for_kind, opened, waited, between, by_state, step}
+use Rattle.player.specs.Step.{Stand, Stepped, put, taken, for_kind, opened, waited, between, by_state, step}
+use Rattle.player.proofs.Puts.{put_ends}
+use Rattle.player.specs.declared.fault.Fault.{Fault}
 use Rattle.player.specs.declared.player.Progress.{Progress}
 use Rattle.player.specs.declared.player.State.{State}
 use Rattle.player.specs.declared.player.State.TheVariants.{Between, Waiting, Ended, Faulted}
@@ -44,45 +44,22 @@ module _ (log : List ℕ) (q : ℕ) where
   Good r = Onward log q r
 
   register_good : Good (register_at log (q + 3))
-  register_good =
-      cond_both (leb (q + 3 + 12) (bits log)) _ _ Good
-      (λ a. let l = leb-true (q + 3 + 12) (bits log) a in cond_both (address_fits (field log (q + 3) 4)) _ _ Good (λ b. (omega arith, l, tt)) (λ b. tt))
-      (λ a. tt)
+  register_good = grind arith
 
   window_good : Good (window_at log (q + 3))
-  window_good = cond_both (leb (q + 3 + 20) (bits log)) _ _ Good (λ a. (omega arith, leb-true (q + 3 + 20) (bits log) a, tt)) (λ a. tt)
+  window_good = grind arith
 
   wait_good : Good (wait_at log (q + 3))
-  wait_good =
-      cond_both (leb (q + 3 + 16) (bits log)) _ _ Good
-      (λ a. let l = leb-true (q + 3 + 16) (bits log) a in cond_both (ticks_fit (field log (q + 3) 16)) _ _ Good (λ b. (omega arith, l, field_below log (q + 3) 16)) (λ b. tt))
-      (λ a. tt)
+  wait_good = grind (arith, field_below log (q + 3) 16)
 
   payload_good : (place o n : ℕ) → q + 3 ≤ place → 1 ≤ n → Good (payload_at log place o n)
-  payload_good place o n le one =
-      cond_both (block_fits o n) _ _ Good
-      (λ a. cond_both (padded log place) _ _ Good
-      (λ b. cond_both (leb (8 * (bytes_for place + n)) (bits log)) _ _ Good (λ c. (omega arith, leb-true (8 * (bytes_for place + n)) (bits log) c, tt)) (λ c. tt))
-      (λ b. tt))
-      (λ a. tt)
+  payload_good place o n le one = grind arith
 
   block_good : Good (block_at log (q + 3))
-  block_good =
-      cond_both (leb (q + 3 + 24) (bits log)) _ _ Good (λ a. payload_good (q + 3 + 24) (field log (q + 3) 12) (field log (q + 3 + 12) 12 + 1) (omega arith) (omega arith)) (λ a. tt)
+  block_good = grind (arith, payload_good)
 
   record_good : Good (decode log q)
-  record_good =
-      let t = field log q 3 in
-      cond_both (length_fits log) _ _ Good
-      (λ long. cond_both (leb (q + 3) (bits log)) (tagged log (q + 3) t) (Err Cut) Good
-      (λ l.
-      cond_both (eqb t 0) _ _ Good (λ a. cond_both (ends log (q + 3)) _ _ Good (λ e. tt) (λ e. tt)) (λ a.
-      cond_both (eqb t 1) _ _ Good (λ b. register_good) (λ b.
-      cond_both (eqb t 2) _ _ Good (λ c. window_good) (λ c.
-      cond_both (eqb t 3) _ _ Good (λ d. wait_good) (λ d.
-      cond_both (eqb t 4) _ _ Good (λ e. block_good) (λ e. tt))))))
-      (λ l. tt))
-      (λ long. tt)
+  record_good = grind (arith, register_good, window_good, wait_good, block_good)
 
 -- A bound on the steps left, which each step lessens
 
@@ -102,19 +79,12 @@ left log p = left_by log p.place p.state
 past_header : (log : List ℕ) (place : ℕ) → records_start ≤ place → between_left log place ≡ 1 + 65536 * (bits log + 1 - place)
 past_header log place h = cond-false (ltb place records_start) _ _ (le-ltb place records_start h)
 
-refused_left :
-    (log : List ℕ) (top : ℕ) (next : ChipState → Stepped) → ((d : ChipState) → left log (next d).player ≤ top) → (c : ChipState) (place bit address : ℕ) (r : Result ChipState Refusal) →
-    left log (unless_refused next c place bit address r).player ≤ top
-refused_left log top next ih c place bit address (Ok d) = ih d
-refused_left log top next ih c place bit address (Err r) = omega arith
-
 put_left :
     (log : List ℕ) (q place : ℕ) (bytes : List ℕ) (address bit : ℕ) (c : ChipState) → records_start ≤ q → q + 3 ≤ place → place ≤ bits log →
     left log (put bytes address bit place c).player ≤ 65536 * (bits log + 1 - q)
-unfolding put
-put_left log q place [] address bit c h l u = omega (arith, past_header log place (omega arith))
-put_left log q place (b ∷ bytes) address bit c h l u =
-    refused_left log (65536 * (bits log + 1 - q)) (put bytes (address + 1) bit place) (λ d. put_left log q place bytes (address + 1) bit d h l u) c place bit address (write c address b)
+put_left log q place bytes address bit c h l u =
+    put_ends (λ d. Unit {0}) (λ t. left log t.player ≤ 65536 * (bits log + 1 - q)) place bit (λ d a b k. tt)
+    (λ d k. omega (arith, past_header log place (omega arith))) (λ d r a k. omega arith) bytes address c tt
 
 taken_left :
     (log : List ℕ) (q : ℕ) (c : ChipState) (r : Result Found LogFault) → records_start ≤ q → Onward log q r → left log (taken c q r).player ≤ 65536 * (bits log + 1 - q)
@@ -127,24 +97,19 @@ taken_left log q c (Ok (found (block offset payload) next)) h g = put_left log q
 taken_left log q c (Err fault) h g = omega arith
 
 opened_left : (log : List ℕ) (c : ChipState) (place : ℕ) (r : Result (Unit {0}) LogFault) → left log (opened c place r).player ≤ 1 + 65536 * (bits log + 1)
-opened_left log c place (Ok u) = omega arith
-opened_left log c place (Err fault) = omega arith
+opened_left log c place r = grind arith
 
 waited_left :
     (log : List ℕ) (c : ChipState) (place bit n : ℕ) (r : Result Registers Refusal) → left log (waited c place bit n r).player ≤ n + between_left log place
-waited_left log c place bit n (Ok r) =
-    cond_both (leb n 1) Between (Waiting bit (n - 1)) (λ s. left_by log place s ≤ n + between_left log place)
-    (λ h. omega arith)
-    (λ h. omega (arith, leb-false n 1 h))
-waited_left log c place bit n (Err e) = omega arith
+waited_left log c place bit n r = grind arith
 
 between_step : (log : List ℕ) (c : ChipState) (place : ℕ) → left log (between log c place).player + 1 ≤ between_left log place
 between_step log c place =
     ⊎_elim
     (λ (h : place < records_start).
     let t = lt-ltb place records_start h in
-    let o = opened_left log c place (for_kind c.registers.kind (header log)) in
-    let e : between log c place ≡ opened c place (for_kind c.registers.kind (header log)) = cond-true (ltb place records_start) _ _ t in
+    let o = opened_left log c place (for_kind c.registers.setup.kind (header log)) in
+    let e : between log c place ≡ opened c place (for_kind c.registers.setup.kind (header log)) = cond-true (ltb place records_start) _ _ t in
     let b : between_left log place ≡ 2 + 65536 * (bits log + 1) = cond-true (ltb place records_start) _ _ t in
     omega (arith, ap (λ x. left log x.player) e))
     (λ (h : records_start ≤ place).
@@ -170,49 +135,25 @@ step_left log c p h = by p.place p.state h
     by : (place : ℕ) (s : State) → running_by s ≡ true → left log (by_state log c place s).player + 1 ≤ left_by log place s
     by place Between h = between_step log c place
     by place (Waiting bit n) h = omega (arith, waited_left log c place bit n (tick c.memory.bytes c.registers))
-    by place (Ended bit) h = absurd (let z : ◌≡◌ {A = ℕ} 0 1 = ap (λ b. cond b 1 0) h in omega arith)
-    by place (Faulted fault) h = absurd (let z : ◌≡◌ {A = ℕ} 0 1 = ap (λ b. cond b 1 0) h in omega arith)
+    by place (Ended bit) h = grind arith
+    by place (Faulted fault) h = grind arith
 
 -- An answer that does not stop a player leaves it running
 
 abbrev Goes : Stepped → Type 0
 Goes t = stops t.answer ≡ false → running t.player ≡ true
 
-no : {A : Type 0} → ◌≡◌ {A = Bool} true false → A
-no h = absurd (let z : ◌≡◌ {A = ℕ} 0 1 = ap (λ b. cond b 0 1) h in omega arith)
-
-refused_goes : (next : ChipState → Stepped) → ((d : ChipState) → Goes (next d)) → (c : ChipState) (place bit address : ℕ) (r : Result ChipState Refusal) → Goes (unless_refused next c place bit address r)
-refused_goes next ih c place bit address (Ok d) = ih d
-refused_goes next ih c place bit address (Err r) = λ h. no h
-
 put_goes : (bytes : List ℕ) (address bit place : ℕ) (c : ChipState) → Goes (put bytes address bit place c)
-unfolding put
-put_goes [] address bit place c = λ h. refl
-put_goes (b ∷ bytes) address bit place c =
-    refused_goes (put bytes (address + 1) bit place) (put_goes bytes (address + 1) bit place) c place bit address (write c address b)
+put_goes bytes address bit place c = put_ends (λ d. Unit {0}) Goes place bit (λ d a b k. tt) (λ d k h. refl) (λ d r a k. grind arith) bytes address c tt
 
 taken_goes : (c : ChipState) (place : ℕ) (r : Result Found LogFault) → Goes (taken c place r)
-taken_goes c place (Ok end) = λ h. no h
-taken_goes c place (Ok (found (register address byte) next)) = put_goes (byte ∷ []) address place next c
-taken_goes c place (Ok (found (window offset byte) next)) = put_goes (byte ∷ []) (window_start + offset) place next c
-taken_goes c place (Ok (found (wait ticks) next)) = λ h. refl
-taken_goes c place (Ok (found (block offset payload) next)) = put_goes payload (window_start + offset) place next c
-taken_goes c place (Err fault) = λ h. no h
-
-opened_goes : (c : ChipState) (place : ℕ) (r : Result (Unit {0}) LogFault) → Goes (opened c place r)
-opened_goes c place (Ok u) = λ h. refl
-opened_goes c place (Err fault) = λ h. no h
-
-waited_goes : (c : ChipState) (place bit n : ℕ) (r : Result Registers Refusal) → Goes (waited c place bit n r)
-waited_goes c place bit n (Ok r) = λ h. cond_both (leb n 1) Between (Waiting bit (n - 1)) (λ s. running_by s ≡ true) (λ e. refl) (λ e. refl)
-waited_goes c place bit n (Err e) = λ h. no h
+taken_goes c place r = grind (arith, put_goes)
 
 pub step_goes : (log : List ℕ) (c : ChipState) (place : ℕ) (s : State) → Goes (by_state log c place s)
-step_goes log c place Between =
-    cond_both (ltb place records_start) _ _ Goes (λ e. opened_goes c place (for_kind c.registers.kind (header log))) (λ e. taken_goes c place (decode log place))
-step_goes log c place (Waiting bit n) = waited_goes c place bit n (tick c.memory.bytes c.registers)
-step_goes log c place (Ended bit) = λ h. no h
-step_goes log c place (Faulted fault) = λ h. no h
+step_goes log c place Between = grind (arith, taken_goes c place (decode log place))
+step_goes log c place (Waiting bit n) = grind arith
+step_goes log c place (Ended bit) = grind arith
+step_goes log c place (Faulted fault) = grind arith
 
 -- The first stop
 
@@ -224,15 +165,15 @@ cut_call call before [] rest e = inl (refl, cc)
 cut_call call before (x ∷ b) rest e = inr (b, cc, cc)
 
 not_step : {A : Type 0} (call : ChipCall) → Chip call ≡ Step → A
-not_step call h = absurd (let z : ◌≡◌ {A = ℕ} 0 1 = cc in omega arith)
+not_step call h = grind arith
 
-same_answer : (p q : Progress) → answered.Step p ≡ answered.Step q → p ≡ q
+same_answer : (p q : Result Progress Fault) → Some (answered.Step p) ≡ Some (answered.Step q) → p ≡ q
 same_answer p q h = cc
 
 -- one call more before a stop
 stops_later :
-    (call : Call) (before : List Call) (last : Progress) (s : Model) → StopsAfter before last (tried call s) →
-    (call ≡ Step → (p : Progress) → step_after [] s ≡ answered.Step p → stops p ≡ false) → StopsAfter (call ∷ before) last s
+    (call : Call) (before : List Call) (last : Result Progress Fault) (s : Model) → StopsAfter before last (tried call s) →
+    (call ≡ Step → (p : Result Progress Fault) → step_after [] s ≡ Some (answered.Step p) → stops p ≡ false) → StopsAfter (call ∷ before) last s
 stops_later call before last s w quiet =
     record {
       here = w.here;
@@ -248,11 +189,11 @@ stops_later call before last s w quiet =
 pub record FirstStop (calls : List Call) (s : Model) : Type 0 where
   pub before : List Call
   pub rest : List Call
-  pub last : Progress
+  pub last : Result Progress Fault
   pub among : calls ≡ before ++ Step ∷ rest
   pub stops_there : StopsAfter before last s
 
-later : (call : Call) (calls : List Call) (s : Model) → (call ≡ Step → (p : Progress) → step_after [] s ≡ answered.Step p → stops p ≡ false) → FirstStop calls (tried call s) → FirstStop (call ∷ calls) s
+later : (call : Call) (calls : List Call) (s : Model) → (call ≡ Step → (p : Result Progress Fault) → step_after [] s ≡ Some (answered.Step p) → stops p ≡ false) → FirstStop calls (tried call s) → FirstStop (call ∷ calls) s
 later call calls s quiet f =
     record {
       before = call ∷ f.before;
@@ -263,8 +204,8 @@ later call calls s quiet f =
     }
 
 empty_cut : {A : Type 0} (b rest : List Call) → [] ≡ b ++ Step ∷ rest → A
-empty_cut [] rest e = absurd (let z : ◌≡◌ {A = ℕ} 0 1 = cc in omega arith)
-empty_cut (x ∷ b) rest e = absurd (let z : ◌≡◌ {A = ℕ} 0 1 = cc in omega arith)
+empty_cut [] rest e = grind arith
+empty_cut (x ∷ b) rest e = grind arith
 
 pub find_stop : (calls : List Call) (s : Model) → running s.player ≡ true → left s.log s.player ≤ steps calls → FirstStop calls s
 find_stop [] s r l = absurd (omega (arith, step_left s.log s.chip s.player r))

@@ -1,11 +1,13 @@
 -- The contributions of the stems add up to those of the mix: sums over voices and over groups change places.
 use Rattle.std.proofs.Common.{◌≡◌, ℕ, zero, suc, ◌+◌, ◌<◌, ◌≤◌, Bool, true, false, cond, not, List, [], ◌∷◌, map, length, ℤ, pos, ◌+ℤ◌, sym, refl, ap, ◌∙◌, ap₂, zero-add, one-add, arith}
 use lib.IntN.{+ℤ_idl, +ℤ_idr, +ℤ_assoc, +ℤ_comm}
-use Rattle.voice.specs.Frame.{of_side, contributions, sum}
+use Rattle.std.proofs.lemmas.List.Sums.{sum_by-cons}
+use Rattle.voice.specs.Stereo.{of_side}
+use Rattle.voice.specs.Frame.{contributions, sum}
 use Rattle.voice.specs.Voice.{silent, silence}
 use Rattle.voice.specs.declared.frame.Converter.{Converter}
-use Rattle.voice.specs.declared.frame.SideName.{SideName}
-use Rattle.voice.specs.declared.frame.SideName.TheVariants.{Left, Right}
+use Rattle.voice.specs.declared.stereo.SideName.{SideName}
+use Rattle.voice.specs.declared.stereo.SideName.TheVariants.{Left, Right}
 use Rattle.voice.specs.declared.voice.Voice.{Voice}
 use Rattle.chip.specs.Registers.{each}
 use Rattle.session.specs.Station.{Model}
@@ -29,7 +31,7 @@ sum_plus f g (x ∷ xs) = ap (λ r. (f x +ℤ g x) +ℤ r) (sum_plus f g xs) ∙
 
 sum-zero : {A : Type 0} (xs : List A) → sum (map (λ x. pos 0) xs) ≡ pos 0
 sum-zero [] = refl
-sum-zero (x ∷ xs) = ap (λ r. pos 0 +ℤ r) (sum-zero xs)
+sum-zero (x ∷ xs) = grind (arith, sum-zero xs)
 
 times : ℕ → ℤ → ℤ
 times zero x = pos 0
@@ -39,11 +41,14 @@ times (suc n) x = x +ℤ times n x
 held : (k : ℕ) (x : ℤ) (gs : List ℕ) → sum (map (λ g. cond (holds g k) x (pos 0)) gs) ≡ times (holders gs k) x
 unfolding times
 held k x [] = refl
-held k x (g ∷ gs) = ap (λ r. cond (holds g k) x (pos 0) +ℤ r) (held k x gs) ∙ one_more (holds g k)
+held k x (g ∷ gs) =
+    ap (λ r. cond (holds g k) x (pos 0) +ℤ r) (held k x gs)
+    ∙ one_more (holds g k)
+    ∙ ap (λ n. times n x) (sym (sum_by-cons (λ group. cond (holds group k) 1 0) g gs))
   where
     one_more : (t : Bool) → cond t x (pos 0) +ℤ times (holders gs k) x ≡ times (cond t 1 0 + holders gs k) x
-    one_more true = ap (λ n. times n x) (sym (one-add (holders gs k)))
-    one_more false = +ℤ_idl (times (holders gs k) x) ∙ ap (λ n. times n x) (sym (zero-add (holders gs k)))
+    one_more true = grind (arith, one-add (holders gs k))
+    one_more false = grind (arith, +ℤ_idl (times (holders gs k) x), zero-add (holders gs k))
 
 once : (x : ℤ) → times 1 x ≡ x
 unfolding times
@@ -56,8 +61,7 @@ module _ (side : SideName) (d : Converter) where
 
   -- what a voice contributed, as a group hears it
   veiled : (v : Voice) (t : Bool) → of_side side (cond (not t) (silent v) v).latest ≡ cond t (of_side side v.latest) (pos 0)
-  veiled v true = refl
-  veiled v false = quiet side
+  veiled v t = grind (arith, quiet side)
 
   -- one voice, over all groups
   lone : (gs : List ℕ) → Divides gs → (k : ℕ) → k < 8 → (v : Voice) → sum (map (λ g. of_side side (veil (outside g) d k v).latest) gs) ≡ of_side side v.latest

@@ -1,17 +1,17 @@
 -- The stems add up to the mix.
-use Rattle.std.specs.Prelude.{◌≡◌, ℕ, suc, ◌+◌, ◌-◌, ◌*◌, ◌/◌, ◌<◌, ◌≤◌, Bool, true, false, List, [], ◌∷◌, ◌++◌, map, length, slice_index_or}
+use Rattle.std.specs.Prelude.{◌≡◌, ℕ, suc, ◌+◌, ◌-◌, ◌*◌, ◌/◌, ◌<◌, ◌≤◌, Bool, true, false, List, [], ◌∷◌, ◌++◌, map, length, slice_index_or, Option, None, Some, Ok, Err, Result}
 use Rattle.std.specs.List.{AllByRecursion}
 use Rattle.voice.specs.Frame.{sum}
-use Rattle.voice.specs.Voice.{fresh, silence}
-use Rattle.voice.specs.declared.voice.Contribution.{Contribution}
+use Rattle.voice.specs.Voice.{fresh, silence, Contribution}
 use Rattle.voice.specs.declared.voice.Voice.{Voice}
 use Rattle.chip.specs.Port.{positions_start, positions_end}
 use Rattle.chip.specs.Registers.{stands}
-use Rattle.calls.specs.declared.Answer.TheVariants.{Granted, Byte, Contributions, Refused}
-use Rattle.calls.specs.declared.Answer.{Answer as ChipAnswer}
+use Rattle.calls.specs.Calls.{Answer as ChipAnswer}
+use Rattle.calls.specs.declared.Reply.TheVariants.{Byte, Contributions}
 use Rattle.calls.specs.declared.Call.TheVariants.{Reset, Write, Read, Inspect, Tick, Tell}
+use Rattle.player.specs.declared.fault.Fault.{Fault}
 use Rattle.player.specs.declared.player.Progress.{Progress}
-use Rattle.player.specs.declared.player.Progress.TheVariants.{Taken, Ticked, Ended, Faulted}
+use Rattle.player.specs.declared.player.Progress.TheVariants.{Taken, Ticked, Ended}
 use Rattle.session.specs.Station.{Model, tried, tried_all}
 use Rattle.session.specs.Stems.{holds, Each}
 use Rattle.session.specs.declared.call.Answer.{Answer}
@@ -39,27 +39,27 @@ pub record Level (groups : List ℕ) (mix : Model) (stems : List Model) : Type 0
 
 -- The answers of a stem and of the mix to one call agree: they are the same, but that a voice outside the group may
 -- stand elsewhere and may have contributed otherwise.
-pub data Agrees (group : ℕ) : Call → Answer → Answer → Type 0 where
-  same : {call : Call} {x : Answer} → Agrees group call x x
+pub data Agrees (group : ℕ) : Call → Option Answer → Option Answer → Type 0 where
+  same : {call : Call} {x : Option Answer} → Agrees group call x x
   other_position :
       {address a b : ℕ} → positions_start ≤ address → address < positions_end → holds group ((address - positions_start) / 2) ≡ false →
-      Agrees group (Chip (Read address)) (answered.Chip (Byte a)) (answered.Chip (Byte b))
+      Agrees group (Chip (Read address)) (Some (answered.Chip (Ok (Some (Byte a))))) (Some (answered.Chip (Ok (Some (Byte b)))))
   own_contributions :
       {xs ys : List Contribution} → length xs ≡ 8 → length ys ≡ 8 →
       ((k : ℕ) → k < 8 → holds group k ≡ true → slice_index_or xs k silence ≡ slice_index_or ys k silence) →
-      Agrees group (Chip Tell) (answered.Chip (Contributions xs)) (answered.Chip (Contributions ys))
+      Agrees group (Chip Tell) (Some (answered.Chip (Ok (Some (Contributions xs))))) (Some (answered.Chip (Ok (Some (Contributions ys)))))
 
 -- whether a call was an accepted inspection
 abbrev pub chip_granted : ChipAnswer → Bool
-chip_granted Granted = true
-chip_granted (Byte b) = false
-chip_granted (Contributions xs) = false
-chip_granted (Refused e) = false
+chip_granted (Ok None) = true
+chip_granted (Ok (Some (Byte b))) = false
+chip_granted (Ok (Some (Contributions xs))) = false
+chip_granted (Err e) = false
 
-abbrev pub granted : Answer → Bool
-granted answered.None = false
-granted (answered.Chip a) = chip_granted a
-granted (answered.Step p) = false
+abbrev pub granted : Option Answer → Bool
+granted None = false
+granted (Some (answered.Chip a)) = chip_granted a
+granted (Some (answered.Step p)) = false
 
 abbrev pub inspects : Call → Bool
 inspects (Chip Reset) = false
@@ -71,15 +71,15 @@ inspects (Chip Tell) = false
 inspects Step = false
 
 -- whether a call was a granted tick, be it a step's
-abbrev pub step_ticked : Answer → Bool
-step_ticked answered.None = false
-step_ticked (answered.Chip a) = false
-step_ticked (answered.Step Taken) = false
-step_ticked (answered.Step Ticked) = true
-step_ticked (answered.Step (Ended b)) = false
-step_ticked (answered.Step (Faulted f)) = false
+abbrev pub step_ticked : Option Answer → Bool
+step_ticked None = false
+step_ticked (Some (answered.Chip a)) = false
+step_ticked (Some (answered.Step (Ok Taken))) = false
+step_ticked (Some (answered.Step (Ok Ticked))) = true
+step_ticked (Some (answered.Step (Ok (Ended b)))) = false
+step_ticked (Some (answered.Step (Err f))) = false
 
-abbrev pub ticked : Call → Answer → Bool
+abbrev pub ticked : Call → Option Answer → Bool
 ticked (Chip Reset) x = false
 ticked (Chip (Write a b)) x = false
 ticked (Chip (Read a)) x = false
@@ -112,27 +112,27 @@ abbrev pub enough : List ℕ → ℕ
 enough log = 2 + 65536 * (8 * length log + 1)
 
 -- a player stops with an answer of ended, or a fault
-abbrev pub stops : Progress → Bool
-stops Taken = false
-stops Ticked = false
-stops (Ended bit) = true
-stops (Faulted fault) = true
+abbrev pub stops : Result Progress Fault → Bool
+stops (Ok Taken) = false
+stops (Ok Ticked) = false
+stops (Ok (Ended bit)) = true
+stops (Err fault) = true
 
 -- what a step answers after some calls
-abbrev pub step_after : List Call → Model → Answer
+abbrev pub step_after : List Call → Model → Option Answer
 step_after before s = (tried Step (tried_all before s)).answer
 
 -- a player stops with the step that comes after these calls, and with none before
-pub record StopsAfter (before : List Call) (last : Progress) (s : Model) : Type 0 where
-  pub here : step_after before s ≡ answered.Step last
+pub record StopsAfter (before : List Call) (last : Result Progress Fault) (s : Model) : Type 0 where
+  pub here : step_after before s ≡ Some (answered.Step last)
   pub stop : stops last ≡ true
-  pub first : (b rest : List Call) → before ≡ b ++ Step ∷ rest → (p : Progress) → step_after b s ≡ answered.Step p → stops p ≡ false
+  pub first : (b rest : List Call) → before ≡ b ++ Step ∷ rest → (p : Result Progress Fault) → step_after b s ≡ Some (answered.Step p) → stops p ≡ false
 
 -- all players stop at the same step of the calls, with the same answer
 pub record StopAlike (calls : List Call) (mix : Model) (stems : List Model) : Type 0 where
   pub before : List Call
   pub rest : List Call
-  pub last : Progress
+  pub last : Result Progress Fault
   pub among : calls ≡ before ++ Step ∷ rest
   pub mix_stops : StopsAfter before last mix
   pub stems_stop : AllByRecursion (StopsAfter before last) stems

@@ -1,6 +1,6 @@
--- A station: a chip with a player of a log, a frame and a buffer that its calls fill, and the latest answer.
-use Rattle.std.specs.Prelude.{ℕ, Bool, List, [], ◌∷◌, length}
-use Rattle.voice.specs.declared.frame.Frame.{Frame}
+-- A station: a chip with a player of a log, a frame and a buffer that its calls fill, and the latest answer, or none.
+use Rattle.std.specs.Prelude.{ℕ, Bool, List, [], ◌∷◌, length, Option, Some}
+use Rattle.voice.specs.Frame.{Frame}
 use Rattle.chip.specs.Chip.{state}
 use Rattle.chip.specs.Port.{State as ChipState}
 use Rattle.calls.specs.Calls as chip-call
@@ -19,7 +19,7 @@ pub record Model : Type 0 where
   pub player : Stand
   pub frame : Frame
   pub buffer : List ℕ
-  pub answer : Answer
+  pub answer : Option Answer
 
 -- a station over a store of any make
 abbrev pub model : {M : Type 0} → (M → List ℕ) → (M → ℕ → Bool) → Station M → Model
@@ -41,7 +41,7 @@ after_step s t =
       player = t.player;
       frame = player.framed s.frame t t.answer;
       buffer = s.buffer;
-      answer = answered.Step t.answer;
+      answer = Some (answered.Step t.answer);
     }
 
 -- a station after a call was tried on it
@@ -53,7 +53,7 @@ tried (Chip call) s =
       player = s.player;
       frame = chip-call.framed call s.chip s.frame;
       buffer = chip-call.buffered call s.chip s.buffer;
-      answer = answered.Chip (chip-call.answer call (length s.buffer) s.chip);
+      answer = Some (answered.Chip (chip-call.answer call (length s.buffer) s.chip));
     }
 tried Step s = after_step s (step s.log s.chip s.player)
 

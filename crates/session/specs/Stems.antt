@@ -1,6 +1,6 @@
 -- Groups of voices, and what makes stations a mix and its stems.
-use Rattle.std.specs.Prelude.{◌≡◌, ℕ, ◌+◌, ◌<◌, Bool, cond, List, [], ◌∷◌, length, bit_or, bit_xor}
-use Rattle.std.specs.List.{AllByRecursion}
+use Rattle.std.specs.Prelude.{◌≡◌, ℕ, ◌<◌, Bool, cond, List, length, bit_or, bit_xor, count_by}
+use Rattle.std.specs.List.{AllByRecursion, AllZip}
 use Rattle.voice.specs.Voice.{silent}
 use Rattle.voice.specs.declared.frame.Converter.{Converter}
 use Rattle.kind.specs.declared.Kind.{Kind}
@@ -18,8 +18,7 @@ holds group k = bit group k
 
 -- how many of the groups hold voice k
 abbrev pub holders : List ℕ → ℕ → ℕ
-holders [] k = 0
-holders (group ∷ rest) k = cond (holds group k) 1 0 + holders rest k
+holders groups k = count_by (λ group. holds group k) groups
 
 -- the groups divide the eight voices: each voice is in exactly one
 pub record Divides (groups : List ℕ) : Type 0 where
@@ -32,10 +31,7 @@ outside group = bit_xor group 255
 
 -- a relation between each group and the station in its place of a list
 abbrev pub Each : (ℕ → Model → Type 0) → List ℕ → List Model → Type 0
-Each R [] [] = Unit {0}
-Each R [] (s ∷ stations) = ⊥
-Each R (group ∷ groups) [] = ⊥
-Each R (group ∷ groups) (s ∷ stations) = R group s × Each R groups stations
+Each R groups stations = AllZip R groups stations
 
 -- New stations
 
@@ -43,7 +39,7 @@ Each R (group ∷ groups) (s ∷ stations) = R group s × Each R groups stations
 pub record New (kind : Kind) (mutes : ℕ) (log : List ℕ) (s : Model) : Type 0 where
   pub plays : s.log ≡ log
   pub player : s.player ≡ new
-  pub registers : s.chip.registers ≡ made kind s.chip.registers.converter mutes
+  pub registers : s.chip.registers ≡ made (record { kind = kind; converter = s.chip.registers.setup.converter; mutes = mutes })
 
 -- New stations for a mix and for the groups: of one kind, each with a player of one log, over memories that hold the
 -- same bytes and take writes at the same places, and with buffers of one length. Converters may differ.
@@ -59,9 +55,7 @@ pub record Begun (kind : Kind) (groups : List ℕ) (mix : Model) (stems : List M
 abbrev pub muting : ℕ → Converter → Registers → Registers
 muting mutes converter r =
     record {
-      kind = r.kind;
-      converter = converter;
-      mutes = bit_or r.mutes mutes;
+      setup = record { kind = r.setup.kind; converter = converter; mutes = bit_or r.setup.mutes mutes };
       control = r.control;
       channel = bit_or r.channel mutes;
       voices = each (λ k v. cond (bit mutes k) (silent v) v) 0 r.voices;
@@ -72,7 +66,7 @@ pub record StemOf (mix : Model) (group : ℕ) (s : Model) : Type 0 where
   pub log : s.log ≡ mix.log
   pub player : s.player ≡ mix.player
   pub memory : s.chip.memory ≡ mix.chip.memory
-  pub registers : s.chip.registers ≡ muting (outside group) s.chip.registers.converter mix.chip.registers
+  pub registers : s.chip.registers ≡ muting (outside group) s.chip.registers.setup.converter mix.chip.registers
   pub buffer : length s.buffer ≡ length mix.buffer
 
 -- a mix of eight voices, and the stems of the groups

@@ -1,7 +1,8 @@
 // The calls of a session as values.
+use player::fault::Fault;
 use player::player::Progress;
 
-#[derive(Clone, Copy)]
+#[derive(Clone, Copy, PartialEq, Eq, Debug)]
 pub enum Call {
     // a call of the chip
     Chip(calls::Call),
@@ -9,10 +10,9 @@ pub enum Call {
     Step,
 }
 
-#[derive(Clone, Copy)]
+// What a station answers to a call.
+#[derive(Clone, Copy, PartialEq, Eq, Debug)]
 pub enum Answer {
-    // no call has been tried yet
-    None,
     Chip(calls::Answer),
-    Step(Progress),
+    Step(Result<Progress, Fault>),
 }

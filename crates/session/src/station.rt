@@ -9,12 +9,14 @@ use player::player::Player;
 use voice::frame::Frame;
 use wave::memory::Store;
 
+#[derive(Drop)]
 pub struct Station<'a, 'b, M> {
     chip: Chip<M>,
     player: Player<'a>,
     pub frame: Frame,
     pub buffer: &'b mut [u8],
-    pub answer: Answer,
+    // the answer to the latest call, if one was tried
+    pub answer: Option<Answer>,
 }
 
 // A station over a memory of whatever make.
@@ -30,37 +32,11 @@ impl<M: Store> AnyStation for Station<'_, '_, M> {
     ghost model = { λ s. model M.bytes M.takes s };
 
     fn try_call(&mut self, call: Call) {
-        match call {
-            Call::Chip(call) => self.perform(call),
-            Call::Step => self.step(),
-        }
-    }
-}
-
-impl<M: Store> Station<'_, '_, M> {
-    fn perform(&mut self, call: calls::Call)
-        ensures { model M.bytes M.takes self.new ≡ tried (Call.Chip call) (model M.bytes M.takes self.old) }
-    {
-        let Station {
-            chip,
-            frame,
-            buffer,
-            answer,
-            ..
-        } = self;
-        *answer = Answer::Chip(perform(chip, call, frame, buffer));
-    }
-
-    fn step(&mut self)
-        ensures { model M.bytes M.takes self.new ≡ tried Call.Step (model M.bytes M.takes self.old) }
-    {
-        let Station {
-            chip,
-            player,
-            frame,
-            answer,
-            ..
-        } = self;
-        *answer = Answer::Step(player.step(chip, frame));
+        self.answer = Some(match call {
+            Call::Chip(call) => {
+                Answer::Chip(perform(&mut self.chip, call, &mut self.frame, self.buffer))
+            }
+            Call::Step => Answer::Step(self.player.step(&mut self.chip, &mut self.frame)),
+        });
     }
 }

@@ -5,9 +5,10 @@ ghost use Rattle.std.specs.Prelude.{◌≡◌, true};
 
 use calls::{Call, run};
 use chip::chip::Chip;
+use chip::registers::Setup;
 use kind::Kind;
 use std::io;
-use voice::frame::{Converter, Frame, Side};
+use voice::frame::{Converter, Frame};
 use wave::access::{Access, answer_alike};
 use wave::board::Board;
 use wave::memory::{Refusal, Source, Store};
@@ -24,43 +25,24 @@ const TRIANGLE: [u8; 17] = [
 // Where the wave is loaded.
 const START: u16 = 0x1200;
 
-fn say_write(rt: &HostRuntime, place: usize, answer: Result<(), Refusal>) -> io::Result<()> {
-    match answer {
-        Ok(()) => println!(rt; "wrote a byte at place {place}"),
-        Err(refusal) => {
-            let number = refusal.number();
-            println!(rt; "was refused a write at place {place}: {number}")
-        }
-    }
-}
-
-fn say_read(rt: &HostRuntime, place: usize, answer: Result<u8, Refusal>) -> io::Result<()> {
-    match answer {
-        Ok(byte) => println!(rt; "read {byte} at place {place}"),
-        Err(refusal) => {
-            let number = refusal.number();
-            println!(rt; "was refused a read at place {place}: {number}")
-        }
-    }
+fn say_refusal(rt: &HostRuntime, call: &str, place: usize, refusal: Refusal) -> io::Result<()> {
+    println!(rt; "was refused {call} at place {place}: {}", refusal.number())
 }
 
 // Writes the bytes from a place on, up to the first refusal.
 fn load<M: Store>(memory: &mut M, from: u16, bytes: &[u8]) -> Result<(), Refusal> {
-    for (i, byte) in bytes.iter().enumerate() {
-        memory.write(usize::from(from) + i, *byte)?;
+    for (byte, place) in bytes.iter().zip(usize::from(from)..) {
+        memory.write(place, *byte)?;
     }
     Ok(())
 }
 
 // Whether the memory holds the bytes from a place on.
 fn reads_back<M: Source>(memory: &M, from: u16, bytes: &[u8]) -> bool {
-    for (i, byte) in bytes.iter().enumerate() {
-        match memory.read(usize::from(from) + i) {
-            Ok(read) if read == *byte => {}
-            _ => return false,
-        }
-    }
-    true
+    bytes
+        .iter()
+        .zip(usize::from(from)..)
+        .all(|(byte, place)| memory.read(place) == Ok(*byte))
 }
 
 // Loads a wave, reads it back and finds its stop byte.
@@ -68,7 +50,7 @@ fn show_wave<M: Store>(rt: &HostRuntime, memory: &mut M) -> io::Result<()> {
     let count = TRIANGLE.len();
     match load(memory, START, &TRIANGLE) {
         Ok(()) => println!(rt; "loaded a wave of {count} bytes at place {START}")?,
-        Err(refusal) => say_write(rt, usize::from(START), Err(refusal))?,
+        Err(refusal) => say_refusal(rt, "a write", usize::from(START), refusal)?,
     }
     if reads_back(memory, START, &TRIANGLE) {
         println!(rt; "read the same wave back")?;
@@ -83,8 +65,14 @@ fn show_wave<M: Store>(rt: &HostRuntime, memory: &mut M) -> io::Result<()> {
 
 // Tries a write and a read at a place.
 fn show_place<M: Store>(rt: &HostRuntime, memory: &mut M, place: usize) -> io::Result<()> {
-    say_write(rt, place, memory.write(place, 0))?;
-    say_read(rt, place, memory.read(place))
+    match memory.write(place, 0) {
+        Ok(()) => println!(rt; "wrote a byte at place {place}")?,
+        Err(refusal) => say_refusal(rt, "a write", place, refusal)?,
+    }
+    match memory.read(place) {
+        Ok(byte) => println!(rt; "read {byte} at place {place}"),
+        Err(refusal) => say_refusal(rt, "a read", place, refusal),
+    }
 }
 
 // A wave in a board of RAM and ROM.
@@ -146,41 +134,25 @@ const FIRST_TICK: [Call; 8] = [
     Call::Tick,
 ];
 
-const BLANK: Side = Side {
-    contributions: [0; 8],
-    total: 0,
-    word: 0,
-};
-
 // The first tick of that voice, over a memory with the wave; at the last converter an inspection too.
-fn show_tick<M: Store + Drop>(
-    rt: &HostRuntime,
-    memory: M,
-    converter: Converter,
-    bits: u8,
-) -> io::Result<()> {
-    let mut frame = Frame {
-        left: BLANK,
-        right: BLANK,
-    };
-    let mut chip = run(
-        memory,
-        Kind::Rf5c68a,
+fn show_tick<M: Store + Drop>(rt: &HostRuntime, memory: M, converter: Converter) -> io::Result<()> {
+    let setup = Setup {
+        kind: Kind::Rf5c68a,
         converter,
-        0,
-        &FIRST_TICK,
-        &mut frame,
-        &mut [],
-    );
+        mutes: 0,
+    };
+    let mut frame = Frame::default();
+    let mut chip = run(memory, setup, &FIRST_TICK, &mut frame, &mut []);
     let Frame { left, right } = frame;
     println!(rt;
-        "played a voice: totals {} and {}, words of {bits} bits {} and {}",
-        left.total, right.total, left.word, right.word
+        "played a voice: totals {} and {}, words of {} bits {} and {}",
+        left.total, right.total, converter as u8, left.word, right.word
     )?;
-    match converter {
-        Converter::Bits8 => show_inspection(rt, &mut chip),
-        Converter::Bits16 | Converter::Bits10 => Ok(()),
+    // a test of a value: a closure for one turn of three would say no more
+    if converter == Converter::Bits8 {
+        show_inspection(rt, &mut chip)?;
     }
+    Ok(())
 }
 
 // Looks at the start of the wave while the chip sounds.
@@ -188,31 +160,21 @@ fn show_inspection<M: Store>(rt: &HostRuntime, chip: &mut Chip<M>) -> io::Result
     let mut shown = [0; 4];
     match chip.inspect(START % 0x1000, &mut shown) {
         Ok(()) => println!(rt; "inspected the wave while it sounds: {shown:?}")?,
-        Err(refusal) => {
-            let number = refusal.number();
-            println!(rt; "was refused an inspection: {number}")?;
-        }
+        Err(refusal) => println!(rt; "was refused an inspection: {}", refusal.number())?,
     }
     match chip.read(0x1000) {
         Ok(byte) => println!(rt; "read {byte} through the window"),
-        Err(refusal) => {
-            let number = refusal.number();
-            println!(rt; "was refused a window read meanwhile: {number}")
-        }
+        Err(refusal) => println!(rt; "was refused a window read meanwhile: {}", refusal.number()),
     }
 }
 
 // A voice on a chip, at each converter.
 fn show_chip(rt: &HostRuntime) -> io::Result<()> {
-    for (converter, bits) in [
-        (Converter::Bits16, 16),
-        (Converter::Bits10, 10),
-        (Converter::Bits8, 8),
-    ] {
+    for converter in [Converter::Bits16, Converter::Bits10, Converter::Bits8] {
         let mut bytes = vec![in rt.alloc(); 0u8; 65_536]?;
         let mut ram = Ram::new(bytes.as_mut_slice());
         if load(&mut ram, START, &TRIANGLE).is_ok() {
-            show_tick(rt, ram, converter, bits)?;
+            show_tick(rt, ram, converter)?;
         }
     }
     Ok(())

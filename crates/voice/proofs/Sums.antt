@@ -3,11 +3,13 @@ use Rattle.std.proofs.Common.{◌≡◌, ℕ, zero, suc, ◌+◌, ◌*◌, ◌<�
 use lib.IntN.{+ℤ_comm, +ℤ_assoc}
 use Rattle.std.proofs.ByRecursion.{All-map, All-weaker}
 use Rattle.std.proofs.lemmas.Int.{ints}
-use Rattle.voice.specs.Voice.{loudest, Within, Bounded}
-use Rattle.voice.specs.Frame.{of_side, contributions, sum, TotalWithin, AllWithin, AllBounded}
-use Rattle.voice.specs.declared.frame.SideName.{SideName}
-use Rattle.voice.specs.declared.frame.SideName.TheVariants.{Left, Right}
-use Rattle.voice.specs.declared.voice.Contribution.{Contribution}
+use Rattle.std.proofs.lemmas.List.{length-map}
+use Rattle.voice.specs.Voice.{Contribution, loudest, Within, Bounded}
+use Rattle.voice.specs.Stereo.{of_side}
+use Rattle.voice.specs.Frame.{contributions, sum, side, TotalWithin, AllWithin, RangedSide, AllBounded}
+use Rattle.voice.specs.declared.frame.Converter.{Converter}
+use Rattle.voice.specs.declared.stereo.SideName.{SideName}
+use Rattle.voice.specs.declared.stereo.SideName.TheVariants.{Left, Right}
 use Rattle.voice.specs.declared.voice.Voice.{Voice}
 
 sum-suc : (xs : List ℤ) (k : ℕ) → k < length xs → sum (take (suc k) xs) ≡ sum (take k xs) +ℤ get_or xs k (pos 0)
@@ -25,7 +27,7 @@ side_within : (name : SideName) (x : Contribution) → Bounded x → Within (of_
 side_within Left x h = h.0
 side_within Right x h = h.1
 
-pub contributions_within : (name : SideName) (voices : List Voice) → AllBounded voices → AllWithin (contributions name voices)
+contributions_within : (name : SideName) (voices : List Voice) → AllBounded voices → AllWithin (contributions name voices)
 contributions_within name voices h =
     All-map Within (λ v. of_side name v.latest) voices
     (All-weaker (λ v. Bounded v.latest) (λ v. Within (of_side name v.latest)) (λ v. side_within name v.latest) voices h)
@@ -39,7 +41,12 @@ sum_range (x ∷ xs) h =
     let first = h.0 in
     (omega (arith, ints), omega (arith, ints))
 
-pub sum_within : (xs : List ℤ) → length xs ≡ 8 → AllWithin xs → TotalWithin (sum xs)
+sum_within : (xs : List ℤ) → length xs ≡ 8 → AllWithin xs → TotalWithin (sum xs)
 sum_within xs l h =
     let most = sum_range xs h in
     (omega (arith, ints), omega (arith, ints))
+
+pub side_ranged : (k : Converter) (name : SideName) (voices : List Voice) → length voices ≡ 8 → AllBounded voices → RangedSide (side k (contributions name voices))
+side_ranged k name voices l h =
+    let within = contributions_within name voices h in
+    (within, sum_within (contributions name voices) (omega (arith, length-map voices (λ (v : Voice). of_side name v.latest))) within)

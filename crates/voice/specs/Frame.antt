@@ -1,20 +1,15 @@
 -- Frames: contributions, totals, the limiter and the converters.
 use Rattle.std.specs.Prelude.{ℕ, ◌+◌, ◌-◌, ◌/◌, cond, List, [], ◌∷◌, map, ℤ, pos, negsuc, ◌+ℤ◌, neg_ℤ, ◌≤ℤ◌, int_lt}
 use Rattle.std.specs.List.{AllByRecursion}
+use Rattle.voice.specs.Stereo.{of_side}
 use Rattle.voice.specs.Voice.{Within, Bounded}
-use Rattle.voice.specs.declared.voice.Contribution.{Contribution}
 use Rattle.voice.specs.declared.voice.Voice.{Voice}
 use Rattle.voice.specs.declared.frame.Converter.{Converter}
 use Rattle.voice.specs.declared.frame.Converter.TheVariants.{Bits16, Bits10, Bits8}
-use Rattle.voice.specs.declared.frame.SideName.{SideName}
-use Rattle.voice.specs.declared.frame.SideName.TheVariants.{Left, Right}
 use Rattle.voice.specs.declared.frame.Side.{Side}
-use Rattle.voice.specs.declared.frame.Frame.{Frame}
-
--- one side of a contribution
-abbrev pub of_side : SideName → Contribution → ℤ
-of_side Left x = x.left
-of_side Right x = x.right
+use Rattle.voice.specs.declared.stereo.SideName.{SideName}
+use Rattle.voice.specs.declared.stereo.SideName.TheVariants.{Left, Right}
+use Rattle.voice.specs.declared.stereo.Stereo.{Stereo}
 
 -- the latest contributions of voices to one side
 abbrev pub contributions : SideName → List Voice → List ℤ
@@ -55,6 +50,9 @@ word Bits8 v = height v / 256
 -- one side of a frame: limited once, after the sum
 abbrev pub side : Converter → List ℤ → Side
 side k xs = record { contributions = xs; total = sum xs; word = word k (limited (sum xs)) }
+
+abbrev pub Frame : Type 0
+Frame = Stereo Side
 
 abbrev pub frame : Converter → List Voice → Frame
 frame k voices = record { left = side k (contributions Left voices); right = side k (contributions Right voices) }

@@ -1,3 +1,4 @@
+pub mod Stereo
 pub mod Voice
 pub mod Frame
 pub mod Clip

@@ -1,10 +1,8 @@
 -- A voice: where it stands and reads, what it contributes, and what a tick makes of it.
-use Rattle.std.specs.Prelude.{ℕ, ◌+◌, ◌*◌, ◌/◌, ◌%◌, Bool, cond, List, ℤ, pos, neg_ℤ, ◌≤ℤ◌, ◌==◌, nat_lt, slice_index}
+use Rattle.std.specs.Prelude.{ℕ, ◌+◌, ◌*◌, ◌/◌, ◌%◌, Bool, cond, List, ℤ, pos, neg_ℤ, ◌≤ℤ◌, Some, None, Option, ◌==◌, nat_lt, slice_index}
 use Rattle.wave.specs.Search.{stop}
 use Rattle.voice.specs.declared.voice.Settings.{Settings}
-use Rattle.voice.specs.declared.voice.Phase.{Phase}
-use Rattle.voice.specs.declared.voice.Phase.TheVariants.{Rest, At}
-use Rattle.voice.specs.declared.voice.Contribution.{Contribution}
+use Rattle.voice.specs.declared.stereo.Stereo.{Stereo}
 use Rattle.voice.specs.declared.voice.Voice.{Voice}
 
 -- Positions
@@ -34,14 +32,14 @@ abbrev pub loop_start : Settings → ℕ
 loop_start s = (s.lsh * 256 + s.lsl) * span
 
 -- where a voice stands
-abbrev pub position : Settings → Phase → ℕ
-position s Rest = start s
-position s (At p) = p % positions
+abbrev pub position : Settings → Option ℕ → ℕ
+position s None = start s
+position s (Some p) = p % positions
 
 -- where a tick reads first: a voice at rest has not read yet, so it does not advance
-abbrev pub onward : Settings → Phase → ℕ
-onward s Rest = start s
-onward s (At p) = (p + step s) % positions
+abbrev pub onward : Settings → Option ℕ → ℕ
+onward s None = start s
+onward s (Some p) = (p + step s) % positions
 
 -- the place of the memory that a position is in
 abbrev pub place : ℕ → ℕ
@@ -56,6 +54,10 @@ abbrev pub landing : List ℕ → Settings → ℕ → ℕ
 landing bytes s p = cond (look bytes p == stop) (loop_start s) p
 
 -- Contributions
+
+-- what a voice contributes to each side
+abbrev pub Contribution : Type 0
+Contribution = Stereo ℤ
 
 -- a byte's low seven bits, at an envelope and a share, one half of the pan byte
 abbrev pub product : ℕ → ℕ → ℕ → ℕ
@@ -93,13 +95,13 @@ abbrev pub fresh : Voice
 fresh =
     record {
       settings = record { env = 0; pan = 0; fdl = 0; fdh = 0; lsl = 0; lsh = 0; st = 0 };
-      phase = Rest;
+      phase = None;
       latest = silence;
     }
 
 -- a voice that has landed at a position
 abbrev pub landed : List ℕ → Settings → ℕ → Voice
-landed bytes s p = record { settings = s; phase = At p; latest = heard s (look bytes p) }
+landed bytes s p = record { settings = s; phase = Some p; latest = heard s (look bytes p) }
 
 -- a voice that is on
 unfoldable pub sounded : List ℕ → Voice → Voice
@@ -107,7 +109,7 @@ sounded bytes v = landed bytes v.settings (landing bytes v.settings (onward v.se
 
 -- a voice that is off: put at rest
 abbrev pub silent : Voice → Voice
-silent v = record { settings = v.settings; phase = Rest; latest = silence }
+silent v = record { settings = v.settings; phase = None; latest = silence }
 
 -- a voice over one tick
 abbrev pub tick : List ℕ → Bool → Voice → Voice

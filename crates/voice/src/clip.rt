@@ -1,17 +1,19 @@
 // The first clip of a list of totals: where a sound was first limited.
-ghost use Rattle.std.specs.Prelude.{◌≡◌, Decides};
-ghost use Rattle.voice.specs.Clip.{total_of, Clips, FirstClip};
+ghost use Rattle.std.specs.Prelude.{◌↔◌, IsTrue};
+ghost use Rattle.voice.specs.Clip.{Clips, FirstClip};
 
-use crate::frame::{HIGHEST, LOWEST, SideName};
+use crate::frame::{HIGHEST, LOWEST};
+use crate::stereo::{SideName, Stereo};
 
 // The first total that the limiter changes, by its pair and its side, or none. In a pair the left one is first.
-pub fn first_clip(totals: &[(i32, i32)]) -> Option<(usize, SideName)>
+pub fn first_clip(totals: &[Stereo<i32>]) -> Option<(usize, SideName)>
     ensures { FirstClip totals.now result }
 {
+    // the label leaves both loops with both indices
     'pairs: {
         for (pair, both) in totals.iter().enumerate() {
             for side in [SideName::Left, SideName::Right] {
-                if clips(total_of(*both, side)) {
+                if clips(both.of_side(side)) {
                     break 'pairs Some((pair, side));
                 }
             }
@@ -20,31 +22,20 @@ pub fn first_clip(totals: &[(i32, i32)]) -> Option<(usize, SideName)>
     }
 }
 
-fn total_of(both: (i32, i32), side: SideName) -> i32
-    ensures { result ≡ total_of side both }
-{
-    match side {
-        SideName::Left => both.0,
-        SideName::Right => both.1,
-    }
-}
-
 fn clips(total: i32) -> bool
-    ensures { Decides result (Clips total) }
+    ensures { IsTrue result ↔ Clips total }
 {
-    total < LOWEST || total > HIGHEST
+    !(LOWEST..=HIGHEST).contains(&total)
 }
 
 #[cfg(test)]
 mod tests {
     use super::*;
-    use std::test::Fail;
 
     #[test]
-    fn right_of_the_second_pair() -> Result<(), Fail> {
-        match first_clip(&[(-32_768, 32_767), (0, 32_768), (-32_769, 0)]) {
-            Some((1, SideName::Right)) => Ok(()),
-            _ => Err(Fail::new("another clip")),
-        }
+    fn right_of_the_second_pair(rt: HostRuntime) {
+        let totals = [(-32_768, 32_767), (0, 32_768), (-32_769, 0)];
+        let found = first_clip(&totals.map(|(left, right)| Stereo { left, right }));
+        assert_eq!(rt; found, Some((1, SideName::Right)));
     }
 }

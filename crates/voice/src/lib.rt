@@ -3,4 +3,5 @@
 
 pub mod clip;
 pub mod frame;
+pub mod stereo;
 pub mod voice;

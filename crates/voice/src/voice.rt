@@ -1,8 +1,9 @@
 // A voice: its seven register bytes, where it reads in a memory, and what it contributes to the two sides.
 ghost use Rattle.std.specs.Prelude.{◌≡◌, ◌<◌, ◌≤◌};
 ghost use Rattle.voice.specs.Voice.{positions, step, start, loop_start, position, onward, place, look, landing};
-ghost use Rattle.voice.specs.Voice.{product, size, level, heard, loudest, Within, Bounded, fresh, sounded, silent, tick};
+ghost use Rattle.voice.specs.Voice.{product, size, level, heard, loudest, Within, Bounded, fresh, tick};
 
+use crate::stereo::Stereo;
 use wave::memory::{Source, byte_at};
 use wave::search::STOP;
 
@@ -16,7 +17,7 @@ const SPAN: u32 = 2_048;
 const START_SPAN: u32 = 524_288;
 
 // The seven register bytes of a voice.
-#[derive(Clone, Copy)]
+#[derive(Clone, Copy, PartialEq, Eq, Debug, Default)]
 pub struct Settings {
     // the envelope
     pub env: u8,
@@ -32,24 +33,15 @@ pub struct Settings {
     pub st: u8,
 }
 
-// A voice is at rest, or at a position.
-#[derive(Clone, Copy)]
-pub enum Phase {
-    Rest,
-    At(u32),
-}
+// What a voice contributes to each side. A voice may be made with any contribution, so its range is a promise of the tick
+// and no fact of the type.
+pub type Contribution = Stereo<i16>;
 
-// What a voice contributes to each side.
-#[derive(Clone, Copy)]
-pub struct Contribution {
-    pub left: i16,
-    pub right: i16,
-}
-
-#[derive(Clone, Copy)]
+#[derive(Clone, Copy, PartialEq, Eq, Debug, Default)]
 pub struct Voice {
     pub settings: Settings,
-    pub phase: Phase,
+    // its position, or none at rest
+    pub phase: Option<u32>,
     // what it contributed in the last tick
     pub latest: Contribution,
 }
@@ -59,20 +51,7 @@ impl Voice {
     pub fn new() -> Voice
         ensures { result ≡ fresh }
     {
-        let settings = Settings {
-            env: 0,
-            pan: 0,
-            fdl: 0,
-            fdh: 0,
-            lsl: 0,
-            lsh: 0,
-            st: 0,
-        };
-        Voice {
-            settings,
-            phase: Phase::Rest,
-            latest: Contribution { left: 0, right: 0 },
-        }
+        Voice::default()
     }
 
     // Where this voice stands.
@@ -81,8 +60,8 @@ impl Voice {
         ensures bound { result < positions }
     {
         match self.phase {
-            Phase::Rest => self.settings.start(),
-            Phase::At(p) => p % POSITIONS,
+            None => self.settings.start(),
+            Some(p) => p % POSITIONS,
         }
     }
 
@@ -94,36 +73,18 @@ impl Voice {
     }
 
     // One tick: a voice that is on sounds, any other is put at rest.
+    #[tactic(auto, using(crate::proofs::Sounds::ticked_from))]
     pub fn tick<S: Source>(&mut self, memory: &S, on: bool)
         ensures exact { self.new ≡ tick (S.bytes memory.now) on self.old }
         ensures bounded { Bounded self.new.latest }
     {
-        *self = if on {
-            self.sounded(memory)
+        if on {
+            let (p, byte) = self.settings.land(memory, self.settings.onward(self.phase));
+            self.phase = Some(p);
+            self.latest = self.settings.heard(byte);
         } else {
-            self.silent()
-        };
-    }
-
-    fn sounded<S: Source>(&self, memory: &S) -> Voice
-        ensures exact { result ≡ sounded (S.bytes memory.now) self.now }
-        ensures bounded { Bounded result.latest }
-    {
-        let (p, byte) = self.settings.land(memory, self.settings.onward(self.phase));
-        Voice {
-            settings: self.settings,
-            phase: Phase::At(p),
-            latest: self.settings.heard(byte),
-        }
-    }
-
-    fn silent(&self) -> Voice
-        ensures { result ≡ silent self.now }
-    {
-        Voice {
-            settings: self.settings,
-            phase: Phase::Rest,
-            latest: Contribution { left: 0, right: 0 },
+            self.phase = None;
+            self.latest = Contribution::default();
         }
     }
 }
@@ -132,7 +93,7 @@ impl Settings {
     fn step(self) -> u16
         ensures { result ≡ step self }
     {
-        u16::from(self.fdh) * 256 + u16::from(self.fdl)
+        u16::from_be_bytes([self.fdh, self.fdl])
     }
 
     fn start(self) -> u32
@@ -145,16 +106,16 @@ impl Settings {
     fn loop_start(self) -> u32
         ensures { result ≡ loop_start self }
     {
-        (u32::from(self.lsh) * 256 + u32::from(self.lsl)) * SPAN
+        u32::from(u16::from_be_bytes([self.lsh, self.lsl])) * SPAN
     }
 
     // Where a tick reads first.
-    fn onward(self, phase: Phase) -> u32
+    fn onward(self, phase: Option<u32>) -> u32
         ensures { result ≡ onward self phase }
     {
         match phase {
-            Phase::Rest => self.start(),
-            Phase::At(p) => (p % POSITIONS + u32::from(self.step())) % POSITIONS,
+            None => self.start(),
+            Some(p) => (p % POSITIONS + u32::from(self.step())) % POSITIONS,
         }
     }
 
@@ -201,6 +162,7 @@ fn level(byte: u8, env: u8, share: u8) -> i16
     if byte < 128 { -size } else { size }
 }
 
+#[tactic(auto, using(crate::proofs::Levels::size_most))]
 fn product(byte: u8, env: u8, share: u8) -> u32
     requires { share < 16 }
     ensures exact { result ≡ product byte env share }
@@ -237,7 +199,7 @@ mod tests {
     fn positions_go_round(rt: HostRuntime) {
         let mut voice = Voice::new();
         voice.settings.fdl = 1;
-        voice.phase = Phase::At(134_217_727);
+        voice.phase = Some(134_217_727);
         voice.tick(&Rom::new(&[0]), true);
         assert_eq!(rt; voice.position(), 0);
     }

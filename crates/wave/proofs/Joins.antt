@@ -2,7 +2,7 @@
 use Rattle.std.proofs.Common.{◌≡◌, ℕ, ◌+◌, ◌-◌, ◌<◌, ◌≤◌, min, Bool, true, false, cond, ◌&&◌, ltb, leb, List, [], ◌++◌, length, take, set, Ok, Err, Result, sym, refl, ap, ◌∙◌, ap₂, ⊎_elim, append-nil, arith}
 use Rattle.std.proofs.lemmas.List.{length-append, length-take, take_all, length-set, get_or_append_left, get_or-append_right, set-append_left, set-append_right}
 use Rattle.std.proofs.lemmas.Bool.{lt-ltb, le-ltb, le-leb, lt-leb, and_from, and_left, and_right, cond-true, cond-false, cases_lt}
-use Rattle.wave.specs.Outcome.{granted, kept}
+use Rattle.outcome.specs.Outcome.{granted, kept}
 use Rattle.wave.specs.Memory.{Memory, Alike, most, size, meaning, fetch, store, written}
 use Rattle.wave.specs.Lent.{used, ram, rom}
 use Rattle.wave.specs.Board.{joined, either, board, second_written}

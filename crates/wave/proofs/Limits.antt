@@ -1,6 +1,8 @@
 -- The limit on the places that a memory uses, and what reads and writes answer under it.
-use Rattle.std.proofs.Common.{◌≡◌, ℕ, zero, suc, ◌<◌, min, true, false, List, [], ◌∷◌, length, get_or, take, set, Ok, Err, sym, refl, ap, ◌∙◌}
-use Rattle.std.proofs.lemmas.List.{length-take, get_or-take, drop-set-lt}
+use Rattle.std.proofs.Common.{◌≡◌, ℕ, ◌<◌, min, true, false, List, length, get_or, take, set, Ok, Err, sym, ap, ◌∙◌, ⊎_elim, arith}
+use Rattle.std.proofs.Math.Seq.{take-set-lt}
+use Rattle.std.proofs.lemmas.List.{length-take, get_or-take, take-set-le, drop-set-lt, set_past}
+use Rattle.std.proofs.lemmas.Bool.{cases_lt}
 use Rattle.wave.specs.Memory.{most, meaning, store}
 use Rattle.wave.specs.Lent.{used, beyond, ram, rom}
 use Rattle.wave.specs.declared.memory.Refusal.TheVariants.{ReadOnly}
@@ -14,19 +16,17 @@ pub used_at : (lent : List ℕ) (place : ℕ) → place < most → get_or (used 
 unfolding used
 used_at lent place h = get_or-take most lent place 0 h
 
-take-set : (n : ℕ) (l : List ℕ) (i a : ℕ) → take n (set l i a) ≡ set (take n l) i a
-take-set zero l i a = refl
-take-set (suc n) [] i a = refl
-take-set (suc n) (x ∷ l) zero a = refl
-take-set (suc n) (x ∷ l) (suc i) a = ap (λ t. x ∷ t) (take-set n l i a)
-
 pub used-set : (lent : List ℕ) (place byte : ℕ) → used (set lent place byte) ≡ set (used lent) place byte
 unfolding used
-used-set lent place byte = take-set most lent place byte
+used-set lent place byte =
+    ⊎_elim
+    (λ h. take-set-lt most lent place byte h)
+    (λ h. take-set-le most lent place byte h ∙ sym (set_past (take most lent) place byte (omega (arith, length-take most lent))))
+    (cases_lt place most)
 
-pub beyond-set : (lent : List ℕ) (place byte : ℕ) → place < most → beyond (set lent place byte) ≡ beyond lent
+pub beyond_set : (lent : List ℕ) (place byte : ℕ) → place < most → beyond (set lent place byte) ≡ beyond lent
 unfolding beyond
-beyond-set lent place byte h = drop-set-lt most lent place byte h
+beyond_set lent place byte h = drop-set-lt most lent place byte h
 
 -- a write to RAM below its size
 pub ram_written : (lent : List ℕ) (place byte : ℕ) → place < length (used lent) → store (ram lent) place byte ≡ Ok (ram (set lent place byte))

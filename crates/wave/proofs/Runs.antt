@@ -1,11 +1,11 @@
 -- Accesses performed one by one on two memories.
-use Rattle.std.proofs.Common.{◌≡◌, ℕ, suc, ◌≤◌, Bool, true, ◌&&◌, ltb, List, [], ◌∷◌, ◌++◌, length, Decides, sym, refl, ap, ◌∙◌, subst, ap₂, ⊎_elim, arith}
+use Rattle.std.proofs.Common.{◌≡◌, ◌↔◌, IsTrue, ℕ, ◌≤◌, Bool, true, ◌&&◌, ltb, List, [], ◌∷◌, ◌++◌, length, sym, refl, ap, ◌∙◌, subst, ap₂, ⊎_elim}
 use mathlib.Core.Path.{fun_ext}
+use Rattle.std.proofs.lemmas.List.{same_from_push}
 use Rattle.std.proofs.lemmas.Bool.{le-ltb, cases_lt, and_parts, and_from}
 use Rattle.wave.specs.Memory.{Memory, meaning, Alike}
 use Rattle.wave.specs.Access.{answer, after, answers, after_all, Compared}
 use Rattle.wave.specs.declared.access.Access.{Access}
-use Rattle.wave.specs.declared.access.Answer.{Answer}
 
 -- memories that are alike have one meaning
 pub one_meaning : (b c : List ℕ) (t u : ℕ → Bool) → Alike (meaning b t) (meaning c u) → meaning b t ≡ meaning c u
@@ -27,36 +27,19 @@ answers_push : (m : Memory) (xs : List Access) (x : Access) → answers m (xs ++
 answers_push m [] x = refl
 answers_push m (y ∷ xs) x = ap (λ r. answer m y ∷ r) (answers_push (after m y) xs x)
 
-answers_length : (m : Memory) (xs : List Access) → length (answers m xs) ≡ length xs
-answers_length m [] = refl
-answers_length m (x ∷ xs) = ap suc (answers_length (after m x) xs)
-
--- lists of one length with one more element are equal only where both parts are
-push_parts : (xs ys : List Answer) (x y : Answer) → length xs ≡ length ys → xs ++ x ∷ [] ≡ ys ++ y ∷ [] → (xs ≡ ys) × (x ≡ y)
-push_parts [] [] x y l e = (refl, cc)
-push_parts [] (v ∷ ys) x y l e = absurd (omega arith)
-push_parts (u ∷ xs) [] x y l e = absurd (omega arith)
-push_parts (u ∷ xs) (v ∷ ys) x y l e =
-    let rest_length : length xs ≡ length ys = omega arith in
-    let rest : xs ++ x ∷ [] ≡ ys ++ y ∷ [] = cc in
-    let first : u ≡ v = cc in
-    let h = push_parts xs ys x y rest_length rest in
-    (ap₂ ◌∷◌ first h.0, h.1)
-
 module _ (m n : Memory) (xs : List Access) (x : Access) where
   more : answers m xs ≡ answers n xs → answer (after_all m xs) x ≡ answer (after_all n xs) x → answers m (xs ++ x ∷ []) ≡ answers n (xs ++ x ∷ [])
   more e f = answers_push m xs x ∙ ap₂ (λ ys y. ys ++ y ∷ []) e f ∙ sym (answers_push n xs x)
 
   fewer : answers m (xs ++ x ∷ []) ≡ answers n (xs ++ x ∷ []) → (answers m xs ≡ answers n xs) × (answer (after_all m xs) x ≡ answer (after_all n xs) x)
   fewer e =
-      push_parts (answers m xs) (answers n xs) (answer (after_all m xs) x) (answer (after_all n xs) x)
-      (answers_length m xs ∙ sym (answers_length n xs))
+      same_from_push (answers m xs) (answers n xs) (answer (after_all m xs) x) (answer (after_all n xs) x)
       (sym (answers_push m xs x) ∙ e ∙ answers_push n xs x)
 
   -- one access more
   pub compared_more :
       (alike same : Bool) (m₁ n₁ m₂ n₂ : Memory) → Compared m n xs alike m₁ n₁ →
-      Decides same (answer m₁ x ≡ answer n₁ x) → m₂ ≡ after m₁ x → n₂ ≡ after n₁ x →
+      (IsTrue same ↔ (answer m₁ x ≡ answer n₁ x)) → m₂ ≡ after m₁ x → n₂ ≡ after n₁ x →
       Compared m n (xs ++ x ∷ []) (alike && same) m₂ n₂
   compared_more alike same m₁ n₁ m₂ n₂ h d p q =
       let to : answer m₁ x ≡ answer n₁ x → answer (after_all m xs) x ≡ answer (after_all n xs) x = λ f. cc (h.first, h.second) in

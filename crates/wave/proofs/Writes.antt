@@ -1,10 +1,9 @@
 -- What reads and writes of a memory answer, below its size and past it.
-use Rattle.std.proofs.Common.{◌≡◌, ℕ, ◌<◌, ◌≤◌, Bool, true, false, cond, ◌&&◌, ltb, List, length, get_or, set, Ok, Err, sym, refl, ap, arith}
-use Rattle.std.proofs.lemmas.List.{length-set, get_or_past}
-use Rattle.std.proofs.lemmas.Bool.{lt-ltb, le-ltb, ltb-false, cond-true, cond-false}
-use Rattle.wave.specs.Outcome.{kept}
+use Rattle.std.proofs.Common.{◌≡◌, ℕ, ◌<◌, ◌≤◌, Bool, cond, ◌&&◌, ltb, List, length, get_or, set, Ok, Err, sym, ap}
+use Rattle.std.proofs.lemmas.List.{length-set}
+use Rattle.std.proofs.lemmas.Bool.{lt-ltb, le-ltb, cond-true, cond-false}
+use Rattle.outcome.specs.Outcome.{kept}
 use Rattle.wave.specs.Memory.{Memory, size, meaning, fetch, store, written}
-use Rattle.wave.specs.declared.memory.Refusal.{Refusal}
 use Rattle.wave.specs.declared.memory.Refusal.TheVariants.{ReadOnly, PastEnd}
 
 module _ (bytes : List ℕ) (place : ℕ) where
@@ -32,11 +31,3 @@ store_past m place byte h = cond-false (ltb place (size m)) _ _ (le-ltb place (s
 
 pub written_past : (m : Memory) (place byte : ℕ) → size m ≤ place → written m place byte ≡ m
 written_past m place byte h = ap (kept m) (store_past m place byte h)
-
--- a read is refused only past the end
-pub fetch_refused : (bytes : List ℕ) (place : ℕ) (e : Refusal) → Err e ≡ fetch bytes place → 0 ≡ get_or bytes place 0
-fetch_refused bytes place e h = go (ltb place (length bytes)) refl h
-  where
-    go : (t : Bool) → ltb place (length bytes) ≡ t → Err e ≡ cond t (Ok (get_or bytes place 0)) (Err PastEnd) → 0 ≡ get_or bytes place 0
-    go true q r = let z : ◌≡◌ {A = ℕ} 0 1 = cc in absurd (omega arith)
-    go false q r = sym (get_or_past bytes place 0 (ltb-false place (length bytes) q))

@@ -1,19 +1,21 @@
 -- Reads and writes in a list: what a memory answers to them, and what it means afterwards.
-use Rattle.std.specs.Prelude.{◌≡◌, ℕ, Bool, List, [], ◌∷◌, Ok, Err, Decides, Result}
+use Rattle.std.specs.Prelude.{◌≡◌, ◌↔◌, ℕ, Bool, List, [], ◌∷◌, Some, None, Ok, Err, Option, Result, IsTrue}
 use Rattle.wave.specs.Memory.{Memory, fetch, store, written}
 use Rattle.wave.specs.declared.memory.Refusal.{Refusal}
 use Rattle.wave.specs.declared.access.Access.{Access}
 use Rattle.wave.specs.declared.access.Access.TheVariants.{Read, Write}
-use Rattle.wave.specs.declared.access.Answer.{Answer}
-use Rattle.wave.specs.declared.access.Answer.TheVariants.{Byte, Written, Refused}
+
+-- the byte of a read, nothing more for a write, or the refusal
+abbrev pub Answer : Type 0
+Answer = Result (Option ℕ) Refusal
 
 abbrev pub read_answer : Result ℕ Refusal → Answer
-read_answer (Ok byte) = Byte byte
-read_answer (Err e) = Refused e
+read_answer (Ok byte) = Ok (Some byte)
+read_answer (Err e) = Err e
 
 abbrev pub write_answer : Result Memory Refusal → Answer
-write_answer (Ok n) = Written
-write_answer (Err e) = Refused e
+write_answer (Ok n) = Ok None
+write_answer (Err e) = Err e
 
 abbrev pub answer : Memory → Access → Answer
 answer m (Read place) = read_answer (fetch m.bytes place)
@@ -34,6 +36,6 @@ after_all m (a ∷ rest) = after_all (after m a) rest
 -- The accesses were performed on memories that meant m and n and now mean m' and n', and `same` says whether all the
 -- answers were the same.
 pub record Compared (m n : Memory) (accesses : List Access) (same : Bool) (m' n' : Memory) : Type 0 where
-  pub answers : Decides same (answers m accesses ≡ answers n accesses)
+  pub answers : IsTrue same ↔ (answers m accesses ≡ answers n accesses)
   pub first : m' ≡ after_all m accesses
   pub second : n' ≡ after_all n accesses

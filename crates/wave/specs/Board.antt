@@ -1,11 +1,15 @@
 -- Two memories in a row, the first one's places first.
-use Rattle.std.specs.Prelude.{ℕ, ◌-◌, Bool, cond, ◌&&◌, List, ◌++◌, nat_le, nat_lt}
+use Rattle.std.specs.Prelude.{ℕ, ◌-◌, ◌≤◌, Bool, cond, ◌&&◌, List, ◌++◌, length, nat_le, nat_lt}
 use Rattle.wave.specs.Memory.{Memory, most, size, written, meaning}
-use Rattle.wave.specs.Lent.{used}
+use Rattle.wave.specs.Lent.{used, used_within}
 
 -- their bytes, as far as a memory goes
 unfoldable pub joined : List ℕ → List ℕ → List ℕ
 joined first second = used (first ++ second)
+
+pub joined_within : (first second : List ℕ) → length (joined first second) ≤ most
+unfolding joined
+joined_within first second = used_within (first ++ second)
 
 -- the places of either that take writes
 abbrev pub either : Memory → Memory → ℕ → Bool

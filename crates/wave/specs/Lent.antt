@@ -1,10 +1,16 @@
 -- Bytes that a memory is made over.
-use Rattle.std.specs.Prelude.{ℕ, true, false, List, take, drop}
+use Rattle.std.specs.Prelude.{ℕ, ◌≤◌, true, false, List, length, take, drop}
+use Rattle.std.proofs.Common.{arith}
+use Rattle.std.proofs.lemmas.List.{length-take}
 use Rattle.wave.specs.Memory.{Memory, most, meaning}
 
 -- those that it uses
 unfoldable pub used : List ℕ → List ℕ
 used lent = take most lent
+
+pub used_within : (lent : List ℕ) → length (used lent) ≤ most
+unfolding used
+used_within lent = omega (arith, length-take most lent)
 
 -- those beyond, which it never reaches
 unfoldable pub beyond : List ℕ → List ℕ

@@ -1,4 +1,3 @@
-pub mod Outcome
 pub mod Memory
 pub mod Means
 pub mod Lent

@@ -1,4 +1,5 @@
--- The meaning of a store of any make, by the ghost members of its bound.
+-- The meaning of a store of any make, by the ghost members of its bound. The record that a bound has of both traits has no
+-- name in a definition, so its members are passed one by one.
 use Rattle.std.specs.Prelude.{ℕ, Bool, List}
 use Rattle.wave.specs.Memory.{Memory, meaning}
 

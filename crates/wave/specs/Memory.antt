@@ -1,6 +1,6 @@
 -- What a wave memory means: its bytes, as many as its size, and the places that take writes.
 use Rattle.std.specs.Prelude.{◌≡◌, ℕ, ◌<◌, Bool, cond, ◌&&◌, List, length, Ok, Err, Result, nat_lt, slice_index, slice_set}
-use Rattle.wave.specs.Outcome.{kept}
+use Rattle.outcome.specs.Outcome.{kept}
 use Rattle.wave.specs.declared.memory.Refusal.{Refusal}
 use Rattle.wave.specs.declared.memory.Refusal.TheVariants.{ReadOnly, PastEnd}
 

@@ -1,5 +1,5 @@
 // Lists of reads and writes. Memories of one meaning cannot be told apart by them, whatever their makes.
-ghost use Rattle.std.specs.Prelude.{◌≡◌, true, Decides};
+ghost use Rattle.std.specs.Prelude.{◌≡◌, ◌↔◌, true, IsTrue};
 ghost use Rattle.wave.specs.Memory.{Alike};
 ghost use Rattle.wave.specs.Means.{means};
 ghost use Rattle.wave.specs.Access.{answer, after, Compared};
@@ -7,33 +7,22 @@ ghost use Rattle.wave.specs.Access.{answer, after, Compared};
 use crate::memory::{Refusal, Source, Store};
 
 // What is asked of a memory.
-#[derive(Clone, Copy)]
+#[derive(Clone, Copy, PartialEq, Eq, Debug)]
 pub enum Access {
     Read(usize),
     Write(usize, u8),
 }
 
-// What a memory answers.
-#[derive(Clone, Copy, PartialEq, Eq, Debug)]
-pub enum Answer {
-    Byte(u8),
-    Written,
-    Refused(Refusal),
-}
+// What a memory answers: the byte of a read, nothing more for a write, or its refusal.
+pub type Answer = Result<Option<u8>, Refusal>;
 
 pub fn perform<M: Store>(memory: &mut M, access: Access) -> Answer
     ensures answer { result ≡ answer (means M.bytes M.takes memory.old) access }
     ensures after { means M.bytes M.takes memory.new ≡ after (means M.bytes M.takes memory.old) access }
 {
     match access {
-        Access::Read(place) => match memory.read(place) {
-            Ok(byte) => Answer::Byte(byte),
-            Err(refusal) => Answer::Refused(refusal),
-        },
-        Access::Write(place, byte) => match memory.write(place, byte) {
-            Ok(()) => Answer::Written,
-            Err(refusal) => Answer::Refused(refusal),
-        },
+        Access::Read(place) => memory.read(place).map(Some),
+        Access::Write(place, byte) => memory.write(place, byte).map(|()| None),
     }
 }
 
@@ -44,6 +33,7 @@ pub fn answer_alike<M: Store, N: Store>(first: &mut M, second: &mut N, accesses:
     ensures law { Alike (means M.bytes M.takes first.old) (means N.bytes N.takes second.old)
         → (result ≡ true) × (means M.bytes M.takes first.new ≡ means N.bytes N.takes second.new) }
 {
+    // a loop: of what a closure borrows and changes a proof would know nothing
     let mut alike = true;
     for access in accesses {
         alike &= perform_both(first, second, *access);
@@ -52,8 +42,8 @@ pub fn answer_alike<M: Store, N: Store>(first: &mut M, second: &mut N, accesses:
 }
 
 fn perform_both<M: Store, N: Store>(first: &mut M, second: &mut N, access: Access) -> bool
-    ensures answers { Decides result
-        (answer (means M.bytes M.takes first.old) access
+    ensures answers { IsTrue result
+        ↔ (answer (means M.bytes M.takes first.old) access
         ≡ answer (means N.bytes N.takes second.old) access) }
     ensures first { means M.bytes M.takes first.new ≡ after (means M.bytes M.takes first.old) access }
     ensures second { means N.bytes N.takes second.new ≡ after (means N.bytes N.takes second.old) access }

@@ -1,50 +1,35 @@
-// Bytes that a memory is made over. It uses the first `MOST` of them.
-ghost use Rattle.std.specs.Prelude.{◌≡◌, ℕ, ◌≤◌, length};
-ghost use Rattle.wave.specs.Outcome.{granted};
-ghost use Rattle.wave.specs.Memory.{most, fetch, store, written};
-ghost use Rattle.wave.specs.Lent.{used, beyond, ram, rom};
+// A memory over lent bytes, of which it uses the first `MOST`.
+ghost use Rattle.std.specs.Prelude.{◌≡◌};
+ghost use Rattle.wave.specs.Lent.{used, used_within};
 
-use crate::memory::{MOST, Refusal};
+use crate::memory::{MOST, Refusal, Source};
+use std::convert::AsSlice;
 
-pub(crate) fn used_size(lent: &[u8]) -> usize
-    ensures exact { result ≡ length (used lent.now) }
-    ensures bound { result ≤ most }
-    ensures within { result ≤ length lent.now }
-{
-    lent.len().min(MOST)
+// What RAM and mask ROM have in common; `B` is how the bytes are lent.
+#[derive(Drop)]
+pub struct Lent<B> {
+    pub(crate) lent: B,
 }
 
-pub(crate) fn used_byte(lent: &[u8], place: usize) -> Result<u8, Refusal>
-    ensures { result ≡ fetch (used lent.now) place }
-{
-    if place < used_size(lent) {
-        Ok(lent[place])
-    } else {
-        Err(Refusal::PastEnd)
+impl<B: AsSlice<u8>> Source for Lent<B> {
+    ghost bytes = { λ s. used (B.items s.lent) };
+
+    ghost size_bounded = { λ s. used_within (B.items s.lent) };
+
+    fn size(&self) -> usize {
+        used(self.lent.as_slice()).len()
+    }
+
+    fn read(&self, place: usize) -> Result<u8, Refusal> {
+        used(self.lent.as_slice())
+            .get(place)
+            .copied()
+            .ok_or(Refusal::PastEnd)
     }
 }
 
-pub(crate) fn write_used(lent: &mut [u8], place: usize, byte: u8) -> Result<(), Refusal>
-    ensures answer { result ≡ granted (store (ram lent.old) place byte) }
-    ensures after { ram lent.new ≡ written (ram lent.old) place byte }
-    ensures beyond { beyond lent.new ≡ beyond lent.old }
+fn used(lent: &[u8]) -> &[u8]
+    ensures { result.now ≡ used lent.now }
 {
-    if place < used_size(lent) {
-        lent[place] = byte;
-        Ok(())
-    } else {
-        Err(Refusal::PastEnd)
-    }
-}
-
-// What bytes that take no writes answer to one, whatever its byte.
-pub(crate) fn refuse_write(lent: &[u8], place: usize) -> Result<(), Refusal>
-    ensures answer { (byte : ℕ) → result ≡ granted (store (rom lent.now) place byte) }
-    ensures unchanged { (byte : ℕ) → rom lent.now ≡ written (rom lent.now) place byte }
-{
-    if place < used_size(lent) {
-        Err(Refusal::ReadOnly)
-    } else {
-        Err(Refusal::PastEnd)
-    }
+    &lent[..MOST.min(lent.len())]
 }

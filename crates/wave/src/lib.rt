@@ -3,7 +3,7 @@
 
 pub mod access;
 pub mod board;
-mod lent;
+pub mod lent;
 pub mod memory;
 pub mod ram;
 pub mod rom;

@@ -1,29 +1,26 @@
 // A source is a memory that can be read, a store one that can also be written.
 // All other code knows a memory by these two traits alone.
 ghost use Rattle.std.specs.Prelude.{◌≡◌, ℕ, ◌≤◌, Bool, List, length, slice_index};
-ghost use Rattle.wave.specs.Outcome.{granted};
+ghost use Rattle.outcome.specs.Outcome.{granted};
 ghost use Rattle.wave.specs.Memory.{number, most, fetch, store, written, meaning};
 
 // The most places that a memory uses; bytes beyond them are never reached.
 pub const MOST: usize = 131_072;
 
-// Why a memory refuses a call.
+// Why a memory refuses a call, by its number.
 #[derive(Clone, Copy, PartialEq, Eq, Debug)]
 pub enum Refusal {
     // the place takes no writes
-    ReadOnly,
+    ReadOnly = 5,
     // the place is at or past the size
-    PastEnd,
+    PastEnd = 6,
 }
 
 impl Refusal {
     pub fn number(self) -> u8
         ensures { result ≡ number self }
     {
-        match self {
-            Refusal::ReadOnly => 5,
-            Refusal::PastEnd => 6,
-        }
+        self as u8
     }
 }
 
@@ -32,11 +29,12 @@ pub trait Source {
     ghost bytes: { Self → List ℕ };
 
     fn size(&self) -> usize
-        ensures exact { result ≡ length (bytes self.now) }
-        ensures bound { result ≤ most };
+        ensures { result ≡ length (bytes self.now) };
 
     fn read(&self, place: usize) -> Result<u8, Refusal>
         ensures { result ≡ fetch (bytes self.now) place };
+
+    ghost size_bounded: { (s : Self) → length (bytes s) ≤ most };
 }
 
 pub trait Store: Source {
@@ -53,8 +51,5 @@ pub trait Store: Source {
 pub fn byte_at<S: Source>(memory: &S, place: usize) -> u8
     ensures { result ≡ slice_index (S.bytes memory.now) place }
 {
-    match memory.read(place) {
-        Ok(byte) => byte,
-        Err(_) => 0,
-    }
+    memory.read(place).unwrap_or(0)
 }

@@ -1,45 +1,35 @@
 // Mask ROM over bytes held for reading: no place takes writes.
 ghost use Rattle.std.specs.Prelude.{◌≡◌, false};
-ghost use Rattle.wave.specs.Outcome.{granted};
+ghost use Rattle.outcome.specs.Outcome.{granted};
 ghost use Rattle.wave.specs.Memory.{store, written};
-ghost use Rattle.wave.specs.Lent.{used, rom};
+ghost use Rattle.wave.specs.Lent.{rom};
 
-use crate::lent::{refuse_write, used_byte, used_size};
+use crate::lent::Lent;
 use crate::memory::{Refusal, Source, Store};
 
-#[derive(Drop)]
-pub struct Rom<'a> {
-    lent: &'a [u8],
-}
+pub type Rom<'a> = Lent<&'a [u8]>;
 
-impl<'a> Rom<'a> {
+impl<'a> Lent<&'a [u8]> {
     pub fn new(lent: &'a [u8]) -> Rom<'a>
         ensures { result.lent.now ≡ lent.now }
     {
-        Rom { lent }
+        Lent { lent }
     }
 }
 
-impl Source for Rom<'_> {
-    ghost bytes = { λ s. used s.lent.now };
-
-    fn size(&self) -> usize {
-        used_size(self.lent)
-    }
-
-    fn read(&self, place: usize) -> Result<u8, Refusal> {
-        used_byte(self.lent, place)
-    }
-}
-
-impl Store for Rom<'_> {
+impl Store for Lent<&[u8]> {
     ghost takes = { λ _ _. false };
 
+    #[tactic(auto, using(crate::proofs::Limits::rom_refused, crate::proofs::Writes::store_past))]
     fn write(&mut self, place: usize, byte: u8) -> Result<(), Refusal>
         ensures answer { result ≡ granted (store (rom self.old.lent.now) place byte) }
         ensures after { rom self.new.lent.now ≡ written (rom self.old.lent.now) place byte }
         ensures same { self.new ≡ self.old }
     {
-        refuse_write(self.lent, place)
+        if place < self.size() {
+            Err(Refusal::ReadOnly)
+        } else {
+            Err(Refusal::PastEnd)
+        }
     }
 }

@@ -10,10 +10,5 @@ pub const STOP: u8 = 0xFF;
 pub fn first_stop<S: Source>(memory: &S, from: usize) -> Option<usize>
     ensures { FirstStop (S.bytes memory.now) from result }
 {
-    for place in from..memory.size() {
-        if byte_at(memory, place) == STOP {
-            return Some(place);
-        }
-    }
-    None
+    (from..memory.size()).find(|place| byte_at(memory, *place) == STOP)
 }

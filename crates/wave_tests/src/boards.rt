@@ -1,8 +1,7 @@
 // Boards of RAM and ROM, and boards of boards.
-use crate::cases::{PAST_END, READ_ONLY, check_cases};
+use crate::cases::{PAST_END, READ_ONLY, WRITTEN, byte, check_cases};
 use std::test::Fail;
 use wave::access::Access::{Read, Write};
-use wave::access::Answer::{Byte, Written};
 use wave::board::Board;
 use wave::memory::Source;
 use wave::ram::Ram;
@@ -17,12 +16,12 @@ fn ram_before_rom(rt: HostRuntime) {
     };
     assert_eq!(rt; board.size(), 5);
     let cases = [
-        (Write(1, 9), Written),
+        (Write(1, 9), WRITTEN),
         (Write(2, 9), READ_ONLY),
         (Write(5, 9), PAST_END),
-        (Read(1), Byte(9)),
-        (Read(2), Byte(3)),
-        (Read(4), Byte(5)),
+        (Read(1), byte(9)),
+        (Read(2), byte(3)),
+        (Read(4), byte(5)),
         (Read(5), PAST_END),
     ];
     check_cases(&rt, &mut board, &cases);
@@ -41,8 +40,8 @@ fn empty_parts(rt: HostRuntime) {
         &rt,
         &mut board,
         &[
-            (Write(0, 8), Written),
-            (Read(0), Byte(8)),
+            (Write(0, 8), WRITTEN),
+            (Read(0), byte(8)),
             (Read(1), PAST_END),
         ],
     );
@@ -72,15 +71,15 @@ fn board_of_boards(rt: HostRuntime) {
         },
     };
     let cases = [
-        (Write(0, 10), Written),
+        (Write(0, 10), WRITTEN),
         (Write(1, 20), READ_ONLY),
-        (Write(2, 30), Written),
+        (Write(2, 30), WRITTEN),
         (Write(3, 40), READ_ONLY),
         (Write(4, 50), PAST_END),
-        (Read(0), Byte(10)),
-        (Read(1), Byte(2)),
-        (Read(2), Byte(30)),
-        (Read(3), Byte(4)),
+        (Read(0), byte(10)),
+        (Read(1), byte(2)),
+        (Read(2), byte(30)),
+        (Read(3), byte(4)),
     ];
     check_cases(&rt, &mut board, &cases);
 }
@@ -94,7 +93,7 @@ fn cut_at_the_limit(rt: HostRuntime) -> Result<(), Fail> {
         second: Ram::new(high.as_mut_slice()),
     };
     let cases = [
-        (Write(131_071, 9), Written),
+        (Write(131_071, 9), WRITTEN),
         (Write(131_072, 9), PAST_END),
         (Read(131_072), PAST_END),
         (Read(199_999), PAST_END),

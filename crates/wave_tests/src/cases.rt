@@ -3,9 +3,16 @@ use std::process::Abort;
 use wave::access::{Access, Answer, perform};
 use wave::memory::{Refusal, Store};
 
-pub const PAST_END: Answer = Answer::Refused(Refusal::PastEnd);
+pub const WRITTEN: Answer = Ok(None);
 
-pub const READ_ONLY: Answer = Answer::Refused(Refusal::ReadOnly);
+pub const PAST_END: Answer = Err(Refusal::PastEnd);
+
+pub const READ_ONLY: Answer = Err(Refusal::ReadOnly);
+
+// The answer to a read.
+pub const fn byte(byte: u8) -> Answer {
+    Ok(Some(byte))
+}
 
 pub fn check_cases<M: Store>(rt: &impl Abort, memory: &mut M, cases: &[(Access, Answer)]) {
     for (access, answer) in cases {

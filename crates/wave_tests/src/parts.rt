@@ -1,9 +1,8 @@
 // RAM and ROM by themselves.
-use crate::cases::{PAST_END, READ_ONLY, check_cases};
+use crate::cases::{PAST_END, READ_ONLY, WRITTEN, byte, check_cases};
 use std::process::Abort;
 use std::test::Fail;
 use wave::access::Access::{Read, Write};
-use wave::access::Answer::{Byte, Written};
 use wave::memory::{Refusal, Source, Store};
 use wave::ram::Ram;
 use wave::rom::Rom;
@@ -45,9 +44,9 @@ fn ram_of_each_size(rt: HostRuntime) -> Result<(), Fail> {
                 &rt,
                 &mut ram,
                 &[
-                    (Read(last), Byte(0x40)),
-                    (Write(last, 0x7F), Written),
-                    (Read(last), Byte(0x7F)),
+                    (Read(last), byte(0x40)),
+                    (Write(last, 0x7F), WRITTEN),
+                    (Read(last), byte(0x7F)),
                 ],
             );
         }
@@ -62,7 +61,7 @@ fn ram_leaves_what_it_does_not_use(rt: HostRuntime) -> Result<(), Fail> {
     check_cases(
         &rt,
         &mut ram,
-        &[(Write(131_071, 1), Written), (Write(131_072, 2), PAST_END)],
+        &[(Write(131_071, 1), WRITTEN), (Write(131_072, 2), PAST_END)],
     );
     assert_eq!(rt; bytes.get(131_071).copied(), Some(1));
     assert_eq!(rt; bytes.get(131_072).copied(), Some(0x40));
@@ -83,7 +82,7 @@ fn rom_of_each_size(rt: HostRuntime) -> Result<(), Fail> {
                 &[
                     (Write(0, 1), READ_ONLY),
                     (Write(last, 1), READ_ONLY),
-                    (Read(last), Byte(0x40)),
+                    (Read(last), byte(0x40)),
                 ],
             );
         }

@@ -1,9 +1,9 @@
 -- The laws about whole logs.
-use Rattle.std.proofs.Common.{◌≡◌, ℕ, ◌+◌, ◌-◌, ◌<◌, ◌≤◌, Bool, true, false, leb, ◌⊎◌, List, [], ◌∷◌, ◌++◌, length, get_or, drop, Some, None, Ok, Err, Option, Result, sym, refl, ap, ◌∙◌, subst, inl, inr, ⊎_elim, append_assoc, append-nil, arith}
+use Rattle.std.proofs.Common.{◌≡◌, ℕ, ◌+◌, ◌-◌, ◌<◌, ◌≤◌, true, false, ◌⊎◌, List, [], ◌∷◌, ◌++◌, length, get_or, drop, Some, None, Ok, Err, Option, Result, sym, refl, ap, ◌∙◌, subst, inl, inr, ⊎_elim, append_assoc, append-nil, arith}
 use Rattle.std.proofs.lemmas.List.{take-append-drop, drop-drop, drop_at, length-append, length-drop}
-use Rattle.std.proofs.lemmas.Bool.{and_from, and_parts, le-leb, leb-true, cond_both}
+use Rattle.std.proofs.lemmas.Bool.{and_from, and_parts, le-leb, leb-true}
 use Rattle.register_log.specs.Contents.{Contents, contents, log_of, end_of, AllFit, Reads, Whole}
-use Rattle.register_log.specs.Fields.{Field, field, span, bytes_for, packed, written}
+use Rattle.register_log.specs.Fields.{Field, span, bytes_for, written}
 use Rattle.register_log.specs.Header.{header as header_of, header_fits, header_fields, records_start, most}
 use Rattle.register_log.specs.Record.{Entry, fits, fields}
 use Rattle.register_log.specs.Recording.{State, state, begun, added, after, end_fields, log_length, roomy}
@@ -17,12 +17,6 @@ use Rattle.register_log.proofs.Whole.{whole_begun, whole_added, end_push, length
 use Rattle.whole_log.specs.Outcome.{outcome, onward, closed, recorded, recording, copied, copied_under}
 use Rattle.whole_log.specs.Law.{Begins, HeaderRefused, RecordRefused, Recorded, Copied}
 
-no_ok_err : {A : Type 0} {n : ℕ} {e : Refusal} → ◌≡◌ {A = Result ℕ Refusal} (Ok n) (Err e) → A
-no_ok_err h = absurd (let z : ◌≡◌ {A = ℕ} 0 1 = cc in omega arith)
-
-no_some_none : {A : Type 0} {f : Fault} → ◌≡◌ {A = Option Fault} (Some f) None → A
-no_some_none h = absurd (let z : ◌≡◌ {A = ℕ} 0 1 = cc in omega arith)
-
 -- Buffers
 
 -- the bytes after the fields stay, and so does the length
@@ -30,11 +24,7 @@ written_beyond :
     (buffer : List ℕ) (place : ℕ) (fs : List Field) → bytes_for (place + span fs) ≤ length buffer →
     (drop (bytes_for (place + span fs)) (written buffer place fs) ≡ drop (bytes_for (place + span fs)) buffer) × (length (written buffer place fs) ≡ length buffer)
 unfolding written
-written_beyond buffer place fs l =
-    let n = bytes_for (place + span fs) in
-    let front = packed ((place, field buffer 0 place) ∷ fs) in
-    let count : length front ≡ n = length-packed ((place, field buffer 0 place) ∷ fs) in
-    (drop_at front (drop n buffer) n count, length-append front (drop n buffer) ∙ omega (arith, length-drop n buffer))
+written_beyond buffer place fs l = grind (arith, length-packed, drop_at, length-append, length-drop)
 
 drop_further : (xs ys : List ℕ) (m n : ℕ) → m ≤ n → drop m xs ≡ drop m ys → drop n xs ≡ drop n ys
 drop_further xs ys m n l e =
@@ -48,15 +38,7 @@ record Along (before : List ℕ) (h : Header) (done : List Entry) (s : State) : 
   long : length s.buffer ≡ length before
 
 begins : (before : List ℕ) (h : Header) (done : List Entry) (s : State) → Along before h done s → Begins before s.buffer h done
-begins before h done s a =
-    let n = log_length s.place in
-    let count : n ≡ length (log_of h done) = ap log_length a.whole.place ∙ sym (length-log h done) in (
-      sym (take-append-drop n s.buffer)
-          ∙ ap (λ x. x ++ drop n s.buffer) a.whole.bytes
-          ∙ ap (λ x. log_of h done ++ x) a.beyond
-          ∙ ap (λ x. log_of h done ++ drop x before) count,
-      a.whole.reads,
-    )
+begins before h done s a = grind (arith, length-log, take-append-drop)
 
 -- Calls
 
@@ -67,10 +49,7 @@ BegunSays before h (Err refusal) = HeaderRefused (length before) h refusal
 
 begun_says : (before : List ℕ) (h : Header) → BegunSays before h (begun before h)
 unfolding BegunSays
-begun_says before h =
-    cond_both (header_fits h) _ _ (BegunSays before h)
-    (λ fit. cond_both (roomy (length before) records_start) _ _ (BegunSays before h) (λ room. (fit, room, refl)) (λ room. inr (fit, room, refl)))
-    (λ unfit. inl (unfit, refl))
+begun_says before h = grind arith
 
 AddedSays : State → Entry → Result State Refusal → Type 0
 AddedSays s entry (Ok next) =
@@ -81,15 +60,10 @@ AddedSays s entry (Err refusal) =
 
 added_says : (s : State) (entry : Entry) → AddedSays s entry (added s entry)
 unfolding AddedSays
-added_says s entry =
-    cond_both (fits entry) _ _ (AddedSays s entry)
-    (λ fit. cond_both (roomy (length s.buffer) (after s.place entry)) _ _ (AddedSays s entry) (λ room. (fit, room, refl)) (λ room. inr (fit, room, refl)))
-    (λ unfit. inl (unfit, refl))
+added_says s entry = grind arith
 
 room_parts : (capacity place : ℕ) → roomy capacity place ≡ true → (log_length place ≤ capacity) × (log_length place ≤ most)
-room_parts capacity place h =
-    let p = and_parts (leb (log_length place) capacity) (leb (log_length place) most) h in
-    (leb-true (log_length place) capacity p.0, leb-true (log_length place) most p.1)
+room_parts capacity place h = grind (arith, and_parts, leb-true)
 
 along_begun : (before : List ℕ) (h : Header) (s : State) → BegunSays before h (Ok s) → Along before h [] s
 unfolding BegunSays
@@ -144,12 +118,7 @@ end_more entries (entry ∷ rest) =
     omega arith
 
 room_less : (capacity p q : ℕ) → p ≤ q → roomy capacity q ≡ true → roomy capacity p ≡ true
-room_less capacity p q l h =
-    let r = room_parts capacity q h in
-    and_from _ _ (le-leb (log_length p) capacity (omega arith)) (le-leb (log_length p) most (omega arith))
-
-true_false : {A : Type 0} {b : Bool} → b ≡ true → b ≡ false → A
-true_false t f = absurd (let z : ◌≡◌ {A = Bool} true false = sym t ∙ f in let w : ◌≡◌ {A = ℕ} 0 1 = cc in omega arith)
+room_less capacity p q l h = grind (arith, room_parts, and_from, le-leb)
 
 module _ (before : List ℕ) (h : Header) (fault : Option Fault) where
   closed_law :
@@ -159,11 +128,11 @@ module _ (before : List ℕ) (h : Header) (fault : Option Fault) where
       record {
         granted = λ fit all room none. ap Ok count;
         whole = λ n e. (refl, sym (let m : log_length s.place ≡ n = cc in m) ∙ count, begins before h done s a);
-        refused = λ refusal e. no_ok_err e;
+        refused = λ refusal e. cc;
       }
   closed_law (Some f) done s a = record {
-    granted = λ fit all room none. no_some_none none;
-    whole = λ n e. no_ok_err (sym e);
+    granted = λ fit all room none. cc;
+    whole = λ n e. cc;
     refused = λ refusal e. inr (inr (f, refl, (let m : Log f ≡ refusal = cc in sym m), begins before h done s a));
   }
 
@@ -181,8 +150,8 @@ module _ (before : List ℕ) (h : Header) (fault : Option Fault) where
             let fine = all_fit_at done entry rest all in
             let less : end_of (done ++ entry ∷ []) ≤ end_of (done ++ entry ∷ rest) = subst (λ es. end_of (done ++ entry ∷ []) ≤ end_of es) (append_one done entry rest) (end_more (done ++ entry ∷ []) rest) in
             let roomy_here = room_less (length before) (end_of (done ++ entry ∷ [])) (end_of (done ++ entry ∷ rest)) less room in
-            ⊎_elim (λ u. true_false fine u.0) (λ v. true_false roomy_here v.1) cause;
-        whole = λ n e. no_ok_err (sym e);
+            ⊎_elim (λ u. cc) (λ v. cc) cause;
+        whole = λ n e. cc;
         refused = λ other e.
             let same : refusal ≡ other = cc in
             inr (inl (done, entry, rest, refl, subst (RecordRefused (length before) done entry) same cause, begins before h done s a));
@@ -211,8 +180,8 @@ record_law before h entries fault = by_outcome (begun before h) (begun_says befo
       granted = λ fit all room none.
           let start : records_start ≤ end_of entries = omega arith in
           let enough = room_less (length before) records_start (end_of entries) start room in
-          ⊎_elim (λ u. true_false fit u.0) (λ v. true_false enough v.1) says;
-      whole = λ n e. no_ok_err (sym e);
+          ⊎_elim (λ u. cc) (λ v. cc) says;
+      whole = λ n e. cc;
       refused = λ other e. let same : refusal ≡ other = cc in inl (subst (HeaderRefused (length before) h) same says, refl);
     }
 

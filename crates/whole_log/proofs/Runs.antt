@@ -1,5 +1,5 @@
 -- Steps of a recording, in the words of its outcome.
-use Rattle.std.proofs.Common.{◌≡◌, ℕ, zero, suc, ◌+◌, ◌-◌, ◌*◌, ◌<◌, ◌≤◌, List, ◌∷◌, map, length, get_or, drop, Ok, Err, Option, Result, sym, refl, ap, ◌∙◌, subst, arith}
+use Rattle.std.proofs.Common.{◌≡◌, ℕ, zero, suc, ◌+◌, ◌-◌, ◌*◌, ◌<◌, ◌≤◌, List, ◌∷◌, map, length, get_or, drop, Ok, Err, Option, Result, sym, refl, ap, arith}
 use Rattle.std.proofs.lemmas.List.{drop_more}
 use Rattle.outcome.specs.Outcome.{granted, kept}
 use Rattle.register_log.specs.Contents as contents
@@ -13,33 +13,31 @@ use Rattle.register_log.specs.declared.record.Record.{Record}
 use Rattle.register_log.specs.declared.refusal.Refusal.{Refusal}
 use Rattle.register_log.proofs.Decoding.{Sound, sound}
 use Rattle.register_log.proofs.Whole.{after_more}
-use Rattle.whole_log.specs.Outcome.{outcome, onward, recorded}
+use Rattle.whole_log.specs.Outcome.{outcome, recorded}
 
 -- an outcome from what the call answered and left
 pub when_granted : (s next : State) (o : Result State Refusal) → granted o ≡ Ok tt → next ≡ kept s o → o ≡ Ok next
 when_granted s next (Ok x) g k = ap Ok (sym k)
-when_granted s next (Err e) g k = absurd (let z : ◌≡◌ {A = ℕ} 0 1 = cc in omega arith)
+when_granted s next (Err e) g k = cc
 
 pub when_refused : (s next : State) (refusal : Refusal) (o : Result State Refusal) → granted o ≡ Err refusal → next ≡ kept s o → (o ≡ Err refusal) × (next ≡ s)
-when_refused s next refusal (Ok x) g k = absurd (let z : ◌≡◌ {A = ℕ} 0 1 = cc in omega arith)
+when_refused s next refusal (Ok x) g k = cc
 when_refused s next refusal (Err e) g k = (cc, k)
 
 -- one record more
 pub recorded_granted :
     (entry : Entry) (rest : List Entry) (fault : Option Fault) (s next : State) → granted (added s entry) ≡ Ok tt → next ≡ kept s (added s entry) →
     recorded (entry ∷ rest) fault s ≡ recorded rest fault next
-recorded_granted entry rest fault s next g k = ap (onward (recorded rest fault) s.buffer) (when_granted s next (added s entry) g k)
+recorded_granted entry rest fault s next g k = grind (arith, when_granted)
 
 pub recorded_refused :
     (entry : Entry) (rest : List Entry) (fault : Option Fault) (s next : State) (refusal : Refusal) → granted (added s entry) ≡ Err refusal → next ≡ kept s (added s entry) →
     recorded (entry ∷ rest) fault s ≡ outcome (Err refusal) next.buffer
-recorded_refused entry rest fault s next refusal g k =
-    let w = when_refused s next refusal (added s entry) g k in
-    ap (onward (recorded rest fault) s.buffer) w.0 ∙ ap (λ x. outcome (Err refusal) x.buffer) (sym w.1)
+recorded_refused entry rest fault s next refusal g k = grind (arith, when_refused)
 
 -- the next record of a list
 pub next_record : (records : List Record) (i : ℕ) (d : Record) → i < length records → map values (drop i records) ≡ values (get_or records i d) ∷ map values (drop (i + 1) records)
-next_record records i d l = ap (map values) (drop_more records i d l)
+next_record records i d l = grind (arith, drop_more)
 
 -- The contents of a log from a place on
 
@@ -71,21 +69,14 @@ same_rest log small (suc m) (suc n) place a b =
 -- by what stands at the place
 pub rest_step : (log : List ℕ) → ((k : ℕ) → get_or log k 0 < 256) → (place : ℕ) → rest_of log place ≡ contents.onward (rest_of log) (decode log place)
 unfolding reading
-rest_step log small place =
-    same_onward log place (reading (8 * length log - place) log) (rest_of log)
-    (λ next l k. same_rest log small (8 * length log - place) (enough log next) next (omega arith) (omega arith)) (decode log place) (sound log place small)
+rest_step log small place = grind (arith, same_onward, same_rest, sound)
 
 pub rest_start : (log : List ℕ) → ((k : ℕ) → get_or log k 0 < 256) → 4 ≤ length log → rest_of log records_start ≡ contents.contents log
-rest_start log small l = same_rest log small (enough log records_start) (8 * length log) records_start (omega arith) (omega arith)
+rest_start log small l = grind (arith, same_rest)
 
 -- the reader moves on
 pub found_later : (log : List ℕ) → ((k : ℕ) → get_or log k 0 < 256) → (place next : ℕ) (entry : Entry) → decode log place ≡ Ok (found entry next) → 8 * length log - next < 8 * length log - place
-found_later log small place next entry d =
-    let s = subst (Sound log place) d (sound log place small) in
-    let e = s.0 in
-    let l = s.2 in
-    let more = after_more place entry in
-    omega arith
+found_later log small place next entry d = grind (arith, sound, after_more)
 
 -- What is left to record, by what stands at the place
 
@@ -93,5 +84,4 @@ pub rest_at :
     (log : List ℕ) → ((k : ℕ) → get_or log k 0 < 256) → (place : ℕ) (d : Result Found Fault) → decode log place ≡ d → (s : State) →
     recorded (rest_of log place).entries (rest_of log place).fault s
     ≡ recorded (contents.onward (rest_of log) d).entries (contents.onward (rest_of log) d).fault s
-rest_at log small place d e s =
-    ap (λ c. recorded c.entries c.fault s) (rest_step log small place ∙ ap (contents.onward (rest_of log)) e)
+rest_at log small place d e s = grind (arith, rest_step)

@@ -1,13 +1,12 @@
 // Whole logs: recording a list of records, and copying a log.
 #![tactic(auto)]
 
-ghost use Rattle.std.specs.Prelude.{◌≡◌, ℕ, ◌≤◌, List, map, length, None, Ok, Err, Option as Maybe, MatchResult};
+ghost use Rattle.std.specs.Prelude.{◌≡◌, ℕ, ◌≤◌, List, map, length, None, Option as Maybe};
 ghost use Rattle.register_log.specs.Contents.{contents};
-ghost use Rattle.register_log.specs.Header.{header as header_of};
-ghost use Rattle.register_log.specs.Record.{Entry, values};
-ghost use Rattle.register_log.specs.Recording.{state, begun};
+ghost use Rattle.register_log.specs.Record.{values};
+ghost use Rattle.register_log.specs.Recording.{state};
 ghost use Rattle.register_log.specs.declared.fault.Fault.{Fault as FaultValue};
-ghost use Rattle.whole_log.specs.Outcome.{Outcome, outcome, recorded, finished, recording, copied};
+ghost use Rattle.whole_log.specs.Outcome.{outcome, recorded, finished, recording, copied};
 ghost use Rattle.whole_log.specs.Law.{Recorded, Copied};
 
 use register_log::fault::Fault;
@@ -22,23 +21,9 @@ pub fn record(header: Header, records: &[Record<'_>], buffer: &mut [u8]) -> Resu
     ensures outcome { outcome result buffer.new ≡ recording buffer.old header (map values records.now) None }
     ensures law { Recorded buffer.old header (map values records.now) None (outcome result buffer.new) }
 {
-    let mut recording = begin(header, buffer)?;
-    match add_all(&mut recording, records, buffer) {
-        Ok(()) => Ok(recording.close()),
-        Err(refusal) => {
-            recording.abandon();
-            Err(refusal)
-        }
-    }
-}
-
-fn begin(header: Header, buffer: &mut [u8]) -> Result<Recording, Refusal>
-    ensures outcome { MatchResult result
-        (λ recording. begun buffer.old header ≡ Ok (state recording.place buffer.new))
-        (λ refusal. (begun buffer.old header ≡ Err refusal) × (buffer.new ≡ buffer.old)) }
-    ensures law { (entries : List Entry) (fault : Maybe FaultValue) (o : Outcome) → o ≡ recording buffer.old header entries fault → Recorded buffer.old header entries fault o }
-{
-    Recording::begin(header, buffer)
+    let mut recording = Recording::begin(header, buffer)?;
+    let added = add_all(&mut recording, records, buffer);
+    finish(recording, added)
 }
 
 fn add_all(
@@ -50,6 +35,7 @@ fn add_all(
         recorded (map values records.now) fault (state «recording».old.place buffer.old)
         ≡ finished result fault (state «recording».new.place buffer.new) }
 {
+    // a loop: of what a closure borrows and changes a proof would know nothing
     for record in records {
         recording.add(record, buffer)?;
     }
@@ -61,25 +47,10 @@ pub fn copy(log: &[u8], buffer: &mut [u8]) -> Result<usize, Refusal>
     ensures outcome { outcome result buffer.new ≡ copied log.now buffer.old }
     ensures law { Copied log.now buffer.old (outcome result buffer.new) }
 {
-    let header = match read_header(log) {
-        Ok(header) => header,
-        Err(fault) => return Err(Refusal::Log(fault)),
-    };
+    let header = Header::read(log)?;
     let mut recording = Recording::begin(header, buffer)?;
-    match copy_records(log, &mut recording, buffer) {
-        Ok(()) => Ok(recording.close()),
-        Err(refusal) => {
-            recording.abandon();
-            Err(refusal)
-        }
-    }
-}
-
-fn read_header(log: &[u8]) -> Result<Header, Fault>
-    ensures header { result ≡ header_of log.now }
-    ensures law { (before : List ℕ) (o : Outcome) → o ≡ copied log.now before → Copied log.now before o }
-{
-    Header::read(log)
+    let copied = copy_records(log, &mut recording, buffer);
+    finish(recording, copied)
 }
 
 fn copy_records(log: &[u8], recording: &mut Recording, buffer: &mut [u8]) -> Result<(), Refusal>
@@ -88,12 +59,21 @@ fn copy_records(log: &[u8], recording: &mut Recording, buffer: &mut [u8]) -> Res
         ≡ finished result None (state «recording».new.place buffer.new) }
 {
     let mut reader = Reader::new(log);
-    loop {
-        let record = match reader.next() {
-            Ok(Some(record)) => record,
-            Ok(None) => return Ok(()),
-            Err(fault) => return Err(Refusal::Log(fault)),
-        };
+    while let Some(record) = reader.next()? {
         recording.add(&record, buffer)?;
+    }
+    Ok(())
+}
+
+// Closes a recording that all was added to, and answers the log's length; any other is abandoned.
+fn finish(recording: Recording, added: Result<(), Refusal>) -> Result<usize, Refusal>
+    ensures { (buffer : List ℕ) → outcome result buffer ≡ finished added None (state «recording».place buffer) }
+{
+    match added {
+        Ok(()) => Ok(recording.close()),
+        Err(refusal) => {
+            recording.abandon();
+            Err(refusal)
+        }
     }
 }
