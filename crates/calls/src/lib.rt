@@ -35,7 +35,6 @@ pub enum Reply {
 // What a chip answers: its reply, if the call has one, or its refusal.
 pub type Answer = Result<Option<Reply>, Refusal>;
 
-// The frame and the buffer are the caller's, lent anew at each call, and so no part of the chip.
 // Carries out a call. The frame and the buffer are parameters of their own, since each is lent by itself: a tick alone
 // writes the one, an inspection alone the other.
 pub fn perform<M: Store>(

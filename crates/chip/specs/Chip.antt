@@ -1,4 +1,4 @@
--- A chip over a store of any make, by its state.
+-- A chip over a store of any make, by its state. The members of the store's bound are passed one by one, as to `means`.
 use Rattle.std.specs.Prelude.{ℕ, Bool, List}
 use Rattle.wave.specs.Means.{means}
 use Rattle.chip.specs.Port.{State}

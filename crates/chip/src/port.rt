@@ -4,8 +4,18 @@ ghost use Rattle.chip.specs.Port.{target};
 
 use crate::refusal::Refusal;
 
-// The address at which the window starts.
+// The last register that can be written.
+const LAST_REGISTER: u16 = 8;
+
+// The position registers: the first, and the last.
+const POSITIONS_START: u16 = 0x10;
+
+const POSITIONS_LAST: u16 = 0x1F;
+
+// The address at which the window starts, and the last of all.
 pub const WINDOW_START: u16 = 0x1000;
+
+const LAST_ADDRESS: u16 = 0x1FFF;
 
 // Where a host address leads.
 #[derive(Clone, Copy, PartialEq, Eq, Debug)]
@@ -25,11 +35,11 @@ impl TryFrom<u16> for Target {
 
     fn try_from(address: u16) -> Result<Target, Refusal> {
         match address {
-            0..=8 => Ok(Target::Register(address)),
-            0x10..=0x1F => Ok(Target::Position(address - 0x10)),
-            0x1000..=0x1FFF => Ok(Target::Window(address - WINDOW_START)),
-            0x2000.. => Err(Refusal::BeyondPort),
-            _ => Err(Refusal::NothingThere),
+            ..=LAST_REGISTER => Ok(Target::Register(address)),
+            POSITIONS_START..=POSITIONS_LAST => Ok(Target::Position(address - POSITIONS_START)),
+            WINDOW_START..=LAST_ADDRESS => Ok(Target::Window(address - WINDOW_START)),
+            ..WINDOW_START => Err(Refusal::NothingThere),
+            _ => Err(Refusal::BeyondPort),
         }
     }
 }

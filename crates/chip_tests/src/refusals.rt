@@ -67,7 +67,7 @@ fn beyond_the_port(rt: HostRuntime) -> Result<(), Fail> {
     Ok(())
 }
 
-// A call at each of some addresses.
+// A call at each of some addresses; a list of calls and answers would have to be made first.
 fn check_each<M: Store, F: Fn(u16) -> Call>(
     rt: &impl Abort,
     chip: &mut Chip<M>,

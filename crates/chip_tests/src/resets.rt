@@ -37,6 +37,13 @@ const AS_NEW: [(Call, Answer); 9] = [
     (Tick, Ok(Totals(0, 0))),
 ];
 
+// A chip with another converter, and its first voice muted.
+const MUTED: Setup = Setup {
+    converter: Converter::Bits10,
+    mutes: 0x01,
+    ..RF5C164
+};
+
 #[test]
 fn new_chip(rt: HostRuntime) -> Result<(), Fail> {
     let mut bytes = vec![in rt.alloc(); 0xC0u8; 65_536]?;
@@ -51,14 +58,7 @@ fn new_chip(rt: HostRuntime) -> Result<(), Fail> {
 fn registers_as_new(rt: HostRuntime) -> Result<(), Fail> {
     let mut bytes = vec![in rt.alloc(); 0u8; 65_536]?;
     let ram = Ram::new(bytes.as_mut_slice());
-    let mut chip = Chip::new(
-        ram,
-        Setup {
-            converter: Converter::Bits10,
-            mutes: 0x01,
-            ..RF5C164
-        },
-    );
+    let mut chip = Chip::new(ram, MUTED);
     sound(&rt, &mut chip)?;
     let mut heard = SILENT;
     heard[1] = Contribution {
@@ -76,14 +76,7 @@ fn registers_as_new(rt: HostRuntime) -> Result<(), Fail> {
 fn voices_as_new(rt: HostRuntime) -> Result<(), Fail> {
     let mut bytes = vec![in rt.alloc(); 0u8; 65_536]?;
     let ram = Ram::new(bytes.as_mut_slice());
-    let mut chip = Chip::new(
-        ram,
-        Setup {
-            converter: Converter::Bits10,
-            mutes: 0x01,
-            ..RF5C164
-        },
-    );
+    let mut chip = Chip::new(ram, MUTED);
     sound(&rt, &mut chip)?;
     let calls = [
         (Reset, Ok(Done)),
@@ -105,14 +98,7 @@ fn voices_as_new(rt: HostRuntime) -> Result<(), Fail> {
 fn memory_and_converter_kept(rt: HostRuntime) -> Result<(), Fail> {
     let mut bytes = vec![in rt.alloc(); 0u8; 65_536]?;
     let ram = Ram::new(bytes.as_mut_slice());
-    let mut chip = Chip::new(
-        ram,
-        Setup {
-            converter: Converter::Bits10,
-            mutes: 0x01,
-            ..RF5C164
-        },
-    );
+    let mut chip = Chip::new(ram, MUTED);
     sound(&rt, &mut chip)?;
     chip.reset();
     let frame = next_frame(&mut chip)?;

@@ -20,7 +20,8 @@ use Rattle.player.specs.declared.player.Progress.TheVariants.{Taken, Ticked, End
 use Rattle.player.specs.declared.player.State.{State}
 use Rattle.player.specs.declared.player.State.TheVariants.{Between, Waiting, Ended, Faulted}
 
--- where a player stands in its log, which no step changes, and its state
+-- where a player stands in its log, and its state; the log itself, which no step changes, is left out, as every definition
+-- of a step would have to carry it
 pub record Stand : Type 0 where
   pub place : ℕ
   pub state : State

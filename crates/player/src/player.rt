@@ -18,8 +18,8 @@ use register_log::record::Record;
 use voice::frame::Frame;
 use wave::memory::{Source, Store};
 
-// Where a player is: one of four states, of which a fault stays. Before the header it is between records too, before the
-// first.
+// One of four states. A player that has not taken the header yet is between records as well, before the first; one with a
+// fault keeps it.
 #[derive(Clone, Copy, PartialEq, Eq, Debug)]
 pub enum State {
     // before the header, or between two records

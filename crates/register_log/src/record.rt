@@ -6,7 +6,8 @@ ghost use Rattle.register_log.specs.Record.{values, fits, fields, block};
 
 use crate::tag;
 
-// What was written to the chip, or that it ran for some ticks. A block holds its bytes as a part of the log.
+// What was written to the chip, or that it ran for some ticks. An address stays the number that a log gives, and a block
+// holds its bytes as a part of the log.
 #[derive(Clone, Copy, PartialEq, Eq, Debug)]
 pub enum Record<'a> {
     Register { address: u8, byte: u8 },
@@ -15,8 +16,8 @@ pub enum Record<'a> {
     Block { offset: u16, bytes: &'a [u8] },
 }
 
-// The highest address of a register, and below the size of the window: a chip has both too, but neither crate names the
-// other.
+// The highest address of a register. A chip has this number and the size of its window as well, but neither crate names
+// the other.
 pub(crate) const TOP_ADDRESS: u8 = 8;
 
 // How many bits each field of a record has.

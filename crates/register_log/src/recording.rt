@@ -16,7 +16,8 @@ use crate::record::{ADDRESS_BITS, BYTE_BITS, LENGTH_BITS, OFFSET_BITS, Record, T
 use crate::refusal::Refusal;
 use crate::tag::{self, Tag};
 
-// A log that is being written into a buffer, which is lent at each call. The records so far end at the place.
+// A log that is being written into a buffer. It holds a number alone, and the buffer is lent anew at each call, so that
+// others can look at the log while it grows. The records so far end at the place.
 // A recording is closed or abandoned, and cannot be let go otherwise.
 pub struct Recording {
     place: usize,
@@ -73,7 +74,7 @@ impl Recording {
         Ok(())
     }
 
-    // Writes a record, and the end after it.
+    // Writes a record that fits, and the end after it: `add` has tested what this and `write_record` ask.
     fn put(&mut self, record: &Record<'_>, buffer: &mut [u8])
         requires fits { fits (values «record».now) ≡ true }
         requires room { roomy (length buffer.old) (after self.old.place (values «record».now)) ≡ true }

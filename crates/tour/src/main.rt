@@ -5,6 +5,7 @@ ghost use Rattle.std.specs.Prelude.{◌≡◌, true};
 
 use calls::{Call, run};
 use chip::chip::Chip;
+use chip::port::WINDOW_START;
 use chip::registers::Setup;
 use kind::Kind;
 use std::io;
@@ -158,11 +159,11 @@ fn show_tick<M: Store + Drop>(rt: &HostRuntime, memory: M, converter: Converter)
 // Looks at the start of the wave while the chip sounds.
 fn show_inspection<M: Store>(rt: &HostRuntime, chip: &mut Chip<M>) -> io::Result<()> {
     let mut shown = [0; 4];
-    match chip.inspect(START % 0x1000, &mut shown) {
+    match chip.inspect(START - WINDOW_START, &mut shown) {
         Ok(()) => println!(rt; "inspected the wave while it sounds: {shown:?}")?,
         Err(refusal) => println!(rt; "was refused an inspection: {}", refusal.number())?,
     }
-    match chip.read(0x1000) {
+    match chip.read(WINDOW_START) {
         Ok(byte) => println!(rt; "read {byte} through the window"),
         Err(refusal) => println!(rt; "was refused a window read meanwhile: {}", refusal.number()),
     }

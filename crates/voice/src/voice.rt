@@ -151,7 +151,7 @@ fn look<S: Source>(memory: &S, p: u32) -> u8
     byte_at(memory, (p / SPAN) as usize)
 }
 
-// What a byte gives to a side. The size is cut to a whole number before it gets its sign.
+// What a byte gives to a side, in the range that a tick promises. The size is cut to a whole number before it gets its sign.
 fn level(byte: u8, env: u8, share: u8) -> i16
     requires { share < 16 }
     ensures exact { result ≡ level byte env share }
@@ -182,8 +182,7 @@ mod tests {
         voice.settings.env = env;
         voice.settings.pan = pan;
         voice.tick(&Rom::new(&[byte]), true);
-        assert_eq!(rt; voice.latest.left, left);
-        assert_eq!(rt; voice.latest.right, right);
+        assert_eq!(rt; voice.latest, Contribution { left, right });
     }
 
     #[test]

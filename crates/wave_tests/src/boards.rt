@@ -25,8 +25,7 @@ fn ram_before_rom(rt: HostRuntime) {
         (Read(5), PAST_END),
     ];
     check_cases(&rt, &mut board, &cases);
-    assert_eq!(rt; low[0], 1);
-    assert_eq!(rt; low[1], 9);
+    assert_eq!(rt; low, [1, 9]);
 }
 
 #[test]
