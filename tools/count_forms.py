@@ -1,5 +1,5 @@
 #!/usr/bin/env python3
-"""Lists the places in src/ that have a form of the older language, by point, with their counts.
+"""Lists the places in src/ whose form has a newer one in the language, by point, with their counts.
 
 usage: tools/count_forms.py [FOLDER]     FOLDER is a checkout; this one if none is given
 """

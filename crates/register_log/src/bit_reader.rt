@@ -8,7 +8,8 @@ ghost use Rattle.register_log.specs.declared.fault.Fault.TheVariants.{Cut, Paddi
 use crate::fault::Fault;
 use crate::header::{LENGTH, MOST};
 
-// A log of a right length, and a place in it in bits.
+// A log of a right length, and a place in it in bits. Each method says that the log stays: the reader that is made of it
+// says so once more. Widths are constants of the callers, so their bound is asked and has no type of its own.
 #[derive(Drop)]
 pub(crate) struct BitReader<'a> {
     log: &'a [u8],
