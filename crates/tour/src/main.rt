@@ -3,6 +3,8 @@
 
 ghost use Rattle.std.specs.Prelude.{◌≡◌, true};
 
+mod logs;
+
 use calls::{Call, run};
 use chip::chip::Chip;
 use chip::port::WINDOW_START;
@@ -184,5 +186,6 @@ fn show_chip(rt: &HostRuntime) -> io::Result<()> {
 fn main(rt: HostRuntime) -> io::Result<()> {
     show_board(&rt)?;
     show_comparison(&rt)?;
-    show_chip(&rt)
+    show_chip(&rt)?;
+    logs::show_log(&rt)
 }
