@@ -16,7 +16,8 @@ use Rattle.calls.specs.Calls.{read_answer, answer}
 use Rattle.calls.specs.declared.Call.{Call as ChipCall}
 use Rattle.calls.specs.declared.Call.TheVariants.{Reset, Write, Read, Inspect, Tick, Tell}
 use Rattle.session.specs.Station.{Model, tried}
-use Rattle.session.specs.Stems.{holds, outside, muting, StemOf}
+use Rattle.session.specs.Groups.{holds, outside}
+use Rattle.session.specs.Stems.{muting, StemOf}
 use Rattle.session.specs.Law.{voice, SameVoices, Agrees, same, other_position, own_contributions}
 use Rattle.session.specs.declared.call.Answer.{Answer}
 use Rattle.session.specs.declared.call.Answer.TheVariants as answered

@@ -12,7 +12,8 @@ use Rattle.calls.specs.declared.Call.TheVariants.{Reset, Write, Read, Inspect, T
 use Rattle.calls.specs.declared.Call.{Call as ChipCall}
 use Rattle.player.specs.Step.{step}
 use Rattle.session.specs.Station.{Model, tried}
-use Rattle.session.specs.Stems.{Divides, outside, Each, New, Begun, muting, StemOf, MixAndStems}
+use Rattle.session.specs.Groups.{Divides, outside}
+use Rattle.session.specs.Stems.{Each, New, Begun, muting, StemOf, MixAndStems}
 use Rattle.session.specs.declared.call.Call.{Call}
 use Rattle.session.specs.declared.call.Call.TheVariants.{Chip, Step}
 use Rattle.session.proofs.Muting.{muting_chip, muting_stepped, step-muting, reset-muting, after-muting}

@@ -14,7 +14,8 @@ use Rattle.chip.specs.declared.refusal.Refusal.{Refusal}
 use Rattle.calls.specs.Calls.{no_reply}
 use Rattle.calls.specs.declared.Call.TheVariants.{Reset, Write, Read, Inspect, Tick, Tell}
 use Rattle.session.specs.Station.{Model, tried}
-use Rattle.session.specs.Stems.{Divides, outside, Each, StemOf, MixAndStems}
+use Rattle.session.specs.Groups.{Divides, outside}
+use Rattle.session.specs.Stems.{Each, StemOf, MixAndStems}
 use Rattle.session.specs.Law.{SameVoices, Level, Agrees, granted, inspects, ticked, Together}
 use Rattle.session.specs.declared.call.Answer.TheVariants as answered
 use Rattle.session.specs.declared.call.Call.{Call}

@@ -6,3 +6,4 @@ pub mod Totals
 pub mod Ticks
 pub mod Stopping
 pub mod Laws
+pub mod Runs

@@ -11,7 +11,8 @@ use Rattle.voice.specs.declared.stereo.SideName.TheVariants.{Left, Right}
 use Rattle.voice.specs.declared.voice.Voice.{Voice}
 use Rattle.chip.specs.Registers.{each}
 use Rattle.session.specs.Station.{Model}
-use Rattle.session.specs.Stems.{holds, holders, Divides, outside, Each}
+use Rattle.session.specs.Groups.{holds, holders, Divides, outside}
+use Rattle.session.specs.Stems.{Each}
 use Rattle.session.proofs.Bits.{bit_outside}
 use Rattle.session.proofs.Muting.{veil}
 

@@ -13,7 +13,8 @@ use Rattle.player.specs.declared.fault.Fault.{Fault}
 use Rattle.player.specs.declared.player.Progress.{Progress}
 use Rattle.player.specs.declared.player.Progress.TheVariants.{Taken, Ticked, Ended}
 use Rattle.session.specs.Station.{Model, tried, tried_all}
-use Rattle.session.specs.Stems.{holds, Each}
+use Rattle.session.specs.Groups.{holds}
+use Rattle.session.specs.Stems.{Each}
 use Rattle.session.specs.declared.call.Answer.{Answer}
 use Rattle.session.specs.declared.call.Answer.TheVariants as answered
 use Rattle.session.specs.declared.call.Call.{Call}

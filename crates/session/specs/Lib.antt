@@ -1,3 +1,4 @@
+pub mod Groups
 pub mod Station
 pub mod Stems
 pub mod Law

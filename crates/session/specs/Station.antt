@@ -1,11 +1,17 @@
 -- A station: a chip with a player of a log, a frame and a buffer that its calls fill, and the latest answer, or none.
-use Rattle.std.specs.Prelude.{ℕ, Bool, List, [], ◌∷◌, length, Option, Some}
+use Rattle.std.specs.Prelude.{ℕ, Bool, List, [], ◌∷◌, length, replicate, Option, None, Some, pos}
+use Rattle.wave.specs.Memory.{Memory}
 use Rattle.voice.specs.Frame.{Frame}
+use Rattle.voice.specs.declared.frame.Converter.{Converter}
+use Rattle.voice.specs.declared.frame.Side.{Side}
+use Rattle.kind.specs.declared.Kind.{Kind}
 use Rattle.chip.specs.Chip.{state}
+use Rattle.chip.specs.Registers.{made}
 use Rattle.chip.specs.Port.{State as ChipState}
 use Rattle.calls.specs.Calls as chip-call
 use Rattle.player.specs.Step as player
 use Rattle.player.specs.Step.{Stand, Stepped, stand, step}
+use Rattle.session.specs.Groups.{outside}
 use Rattle.session.specs.declared.call.Call.{Call}
 use Rattle.session.specs.declared.call.Call.TheVariants.{Chip, Step}
 use Rattle.session.specs.declared.call.Answer.{Answer}
@@ -31,6 +37,25 @@ model bytes takes s =
       frame = s.frame;
       buffer = s.buffer.now;
       answer = s.answer;
+    }
+
+-- the frame before any tick
+abbrev pub blank_side : Side
+blank_side = record { contributions = replicate 8 (pos 0); total = pos 0; word = 0 }
+
+abbrev pub blank : Frame
+blank = record { left = blank_side; right = blank_side }
+
+-- a new station for a group: its chip mutes the voices outside the group, and its player has taken no step
+abbrev pub begun : ℕ → Kind → Converter → Memory → List ℕ → List ℕ → Model
+begun group kind converter memory log buffer =
+    record {
+      log = log;
+      chip = record { registers = made (record { kind = kind; converter = converter; mutes = outside group }); memory = memory };
+      player = player.new;
+      frame = blank;
+      buffer = buffer;
+      answer = None;
     }
 
 abbrev pub after_step : Model → Stepped → Model

@@ -1,5 +1,5 @@
--- Groups of voices, and what makes stations a mix and its stems.
-use Rattle.std.specs.Prelude.{◌≡◌, ℕ, ◌<◌, Bool, cond, List, length, bit_or, bit_xor, count_by}
+-- What makes stations a mix and its stems.
+use Rattle.std.specs.Prelude.{◌≡◌, ℕ, cond, List, length, bit_or}
 use Rattle.std.specs.List.{AllByRecursion, AllZip}
 use Rattle.voice.specs.Voice.{silent}
 use Rattle.voice.specs.declared.frame.Converter.{Converter}
@@ -8,26 +8,8 @@ use Rattle.chip.specs.Control.{bit}
 use Rattle.chip.specs.Registers.{each, made}
 use Rattle.chip.specs.declared.registers.Registers.{Registers}
 use Rattle.player.specs.Step.{new}
+use Rattle.session.specs.Groups.{outside}
 use Rattle.session.specs.Station.{Model}
-
--- Groups: sets of voices as bits, of which bit 0 is voice 1
-
--- whether voice k, from 0, is in a group
-abbrev pub holds : ℕ → ℕ → Bool
-holds group k = bit group k
-
--- how many of the groups hold voice k
-abbrev pub holders : List ℕ → ℕ → ℕ
-holders groups k = count_by (λ group. holds group k) groups
-
--- the groups divide the eight voices: each voice is in exactly one
-pub record Divides (groups : List ℕ) : Type 0 where
-  pub bytes : AllByRecursion (λ group. group < 256) groups
-  pub once : (k : ℕ) → k < 8 → holders groups k ≡ 1
-
--- the voices outside a group, which its chip mutes
-abbrev pub outside : ℕ → ℕ
-outside group = bit_xor group 255
 
 -- a relation between each group and the station in its place of a list
 abbrev pub Each : (ℕ → Model → Type 0) → List ℕ → List Model → Type 0
@@ -41,8 +23,8 @@ pub record New (kind : Kind) (mutes : ℕ) (log : List ℕ) (s : Model) : Type 0
   pub player : s.player ≡ new
   pub registers : s.chip.registers ≡ made (record { kind = kind; converter = s.chip.registers.setup.converter; mutes = mutes })
 
--- New stations for a mix and for the groups: of one kind, each with a player of one log, over memories that hold the
--- same bytes and take writes at the same places, and with buffers of one length. Converters may differ.
+-- New stations for a mix and for the groups: of one kind, each with a player of one log, over memories of one meaning,
+-- which hold the same bytes and take writes at the same places, and with buffers of one length. Converters may differ.
 pub record Begun (kind : Kind) (groups : List ℕ) (mix : Model) (stems : List Model) : Type 0 where
   pub new_mix : New kind 0 mix.log mix
   pub new_stems : Each (λ group s. New kind (outside group) mix.log s) groups stems

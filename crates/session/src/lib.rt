@@ -2,5 +2,6 @@
 #![tactic(auto)]
 
 pub mod call;
+pub mod session;
 pub mod station;
 pub mod stems;

@@ -1,1 +1,32 @@
-// The stems of a mix.
+// Stations in a row, each over a memory of whatever make.
+ghost use Rattle.std.specs.Prelude.{◌≡◌, List, [], ◌∷◌, map};
+ghost use Rattle.session.specs.Station.{Model, model, tried};
+
+use crate::call::Call;
+use crate::station::Station;
+use wave::memory::Store;
+
+pub trait Stems {
+    ghost models: { Self → List Model };
+
+    // Tries a call on each.
+    fn try_each(&mut self, call: Call)
+        ensures { models self.new ≡ map (tried call) (models self.old) };
+}
+
+// No station.
+impl Stems for () {
+    ghost models = { λ stems. [] };
+
+    fn try_each(&mut self, _call: Call) {}
+}
+
+// A station, and then others: of three makes, `(a, (b, (c, ())))`.
+impl<M: Store, R: Stems> Stems for (Station<'_, '_, M>, R) {
+    ghost models = { λ stems. model M.bytes M.takes stems.0 ∷ R.models stems.1 };
+
+    fn try_each(&mut self, call: Call) {
+        self.0.try_call(call);
+        self.1.try_each(call);
+    }
+}
