@@ -1,3 +1,4 @@
+pub mod Rows
 pub mod Bits
 pub mod Muting
 pub mod Keeping

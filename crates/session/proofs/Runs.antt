@@ -9,7 +9,7 @@ use Rattle.kind.specs.declared.Kind.{Kind}
 use Rattle.session.specs.Station.{Model, tried, tried_all}
 use Rattle.session.specs.Groups.{Divides}
 use Rattle.session.specs.Stems.{Each, Begun, StemOf, MixAndStems}
-use Rattle.session.specs.Law.{Together, steps, enough, step_after, StopsAfter, StopAlike, Law}
+use Rattle.session.specs.Law.{Together, steps, enough, step_after, StopsAfter, StopAlike, Throughout, Law}
 use Rattle.session.specs.declared.call.Answer.TheVariants as answered
 use Rattle.session.specs.declared.call.Call.{Call}
 use Rattle.session.specs.declared.call.Call.TheVariants.{Chip, Step}
@@ -73,14 +73,21 @@ stop_alike groups div calls mix stems w f =
 
 -- The law
 
-pub law : (kind : Kind) (groups : List ℕ) → Divides groups → (calls : List Call) (mix : Model) (stems : List Model) → Begun kind groups mix stems → Law groups calls mix stems
-law kind groups div calls mix stems b =
-    let w = begun_stems kind groups mix stems div b in
+pub throughout : (groups : List ℕ) → Divides groups → (calls : List Call) (mix : Model) (stems : List Model) → MixAndStems groups mix stems → Throughout groups calls mix stems
+throughout groups div calls mix stems w =
     record {
       start = level groups mix stems w;
       each = λ before rest call e.
           subst (λ l. Together groups call (tried call (tried_all before mix)) l) (map-map (tried call) (tried_all before) stems)
           (together groups div call (tried_all before mix) (map (tried_all before) stems) (still_all groups div before mix stems w));
+      still = still_all groups div calls mix stems w;
+    }
+
+pub law : (kind : Kind) (groups : List ℕ) → Divides groups → (calls : List Call) (mix : Model) (stems : List Model) → Begun kind groups mix stems → Law groups calls mix stems
+law kind groups div calls mix stems b =
+    let w = begun_stems kind groups mix stems div b in
+    record {
+      throughout = throughout groups div calls mix stems w;
       stop = λ h.
           stop_alike groups div calls mix stems w
           (find_stop calls mix (grind (arith, b.new_mix.player)) (grind (arith, b.new_mix.player, h)));

@@ -14,7 +14,7 @@ use Rattle.player.specs.declared.player.Progress.{Progress}
 use Rattle.player.specs.declared.player.Progress.TheVariants.{Taken, Ticked, Ended}
 use Rattle.session.specs.Station.{Model, tried, tried_all}
 use Rattle.session.specs.Groups.{holds}
-use Rattle.session.specs.Stems.{Each}
+use Rattle.session.specs.Stems.{Each, MixAndStems}
 use Rattle.session.specs.declared.call.Answer.{Answer}
 use Rattle.session.specs.declared.call.Answer.TheVariants as answered
 use Rattle.session.specs.declared.call.Call.{Call}
@@ -138,13 +138,19 @@ pub record StopAlike (calls : List Call) (mix : Model) (stems : List Model) : Ty
   pub mix_stops : StopsAfter before last mix
   pub stems_stop : AllByRecursion (StopsAfter before last) stems
 
--- The law, of a mix and its stems as they begin and of calls that are tried on all of them, one by one.
-pub record Law (groups : List ℕ) (calls : List Call) (mix : Model) (stems : List Model) : Type 0 where
-  -- when they have just been made
+-- Calls are tried one by one on a mix and on all of its stems.
+pub record Throughout (groups : List ℕ) (calls : List Call) (mix : Model) (stems : List Model) : Type 0 where
+  -- before the first
   pub start : Level groups mix stems
-  -- and after each call
+  -- after each
   pub each :
       (before rest : List Call) (call : Call) → calls ≡ before ++ call ∷ rest →
       Together groups call (tried call (tried_all before mix)) (map (λ s. tried call (tried_all before s)) stems)
+  -- and after the last they are a mix and its stems, so that calls may go on
+  pub still : MixAndStems groups (tried_all calls mix) (map (tried_all calls) stems)
+
+-- The law, of calls on a mix and its stems that have just been made.
+pub record Law (groups : List ℕ) (calls : List Call) (mix : Model) (stems : List Model) : Type 0 where
+  pub throughout : Throughout groups calls mix stems
   -- enough steps stop all players alike
   pub stop : enough mix.log ≤ steps calls → StopAlike calls mix stems

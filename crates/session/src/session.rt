@@ -4,7 +4,7 @@ ghost use Rattle.kind.specs.declared.Kind.{Kind as AKind};
 ghost use Rattle.session.specs.Station.{model, tried, tried_all};
 ghost use Rattle.session.specs.Groups.{Divides};
 ghost use Rattle.session.specs.Stems.{Begun, MixAndStems};
-ghost use Rattle.session.specs.Law.{Together, Law};
+ghost use Rattle.session.specs.Law.{Together, Throughout, Law};
 
 use crate::call::Call;
 use crate::station::Station;
@@ -38,6 +38,9 @@ impl<M: Store, S: Stems> Session<'_, '_, M, S> {
         ensures mix { model M.bytes M.takes self.new.mix
             ≡ tried_all calls.now (model M.bytes M.takes self.old.mix) }
         ensures stems { S.models self.new.stems ≡ map (tried_all calls.now) (S.models self.old.stems) }
+        ensures throughout { (groups : List ℕ) → Divides groups →
+            MixAndStems groups (model M.bytes M.takes self.old.mix) (S.models self.old.stems) →
+            Throughout groups calls.now (model M.bytes M.takes self.old.mix) (S.models self.old.stems) }
         ensures law { (kind : AKind) (groups : List ℕ) → Divides groups →
             Begun kind groups (model M.bytes M.takes self.old.mix) (S.models self.old.stems) →
             Law groups calls.now (model M.bytes M.takes self.old.mix) (S.models self.old.stems) }

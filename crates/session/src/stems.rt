@@ -30,3 +30,14 @@ impl<M: Store, R: Stems> Stems for (Station<'_, '_, M>, R) {
         self.1.try_each(call);
     }
 }
+
+// Stations over memories of one make.
+impl<M: Store> Stems for &mut [Station<'_, '_, M>] {
+    ghost models = { λ stems. map (model M.bytes M.takes) stems.now };
+
+    fn try_each(&mut self, call: Call) {
+        for station in self.iter_mut() {
+            station.try_call(call);
+        }
+    }
+}

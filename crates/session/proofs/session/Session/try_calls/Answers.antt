@@ -1,4 +1,4 @@
-use Rattle.session.proofs.Runs.{mix_next, stems_next, stems_all, law}
+use Rattle.session.proofs.Runs.{mix_next, stems_next, stems_all, throughout, law}
 use Rattle.session.proofs.session.Session.try_calls.Goals as goal
 
 pub loop-call-preserved : goal.loop-call-preserved
@@ -11,6 +11,9 @@ loop-call-preserved g c =
 
 pub returns-clause-stems : goal.returns-clause-stems
 returns-clause-stems g c = stems_all c.args.calls.now c.loop-call.call-index c.loop-call-test.false _ _ c.loop-call.invariant.1
+
+pub returns-clause-throughout : goal.returns-clause-throughout
+returns-clause-throughout g c = λ groups divides w. throughout groups divides c.args.calls.now _ _ w
 
 pub returns-clause-law : goal.returns-clause-law
 returns-clause-law g c = λ kind groups divides b. law kind groups divides c.args.calls.now _ _ b
