@@ -57,6 +57,10 @@ Frame = Stereo Side
 abbrev pub frame : Converter → List Voice → Frame
 frame k voices = record { left = side k (contributions Left voices); right = side k (contributions Right voices) }
 
+-- the totals of a frame, before the limiter
+abbrev pub totals : Frame → Stereo ℤ
+totals f = record { left = f.left.total; right = f.right.total }
+
 -- Ranges
 
 -- the largest size of a total: eight times the largest of a contribution

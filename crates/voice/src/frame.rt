@@ -1,6 +1,6 @@
 // The frame of a tick: what eight voices contribute to each side, their total, and its word.
 ghost use Rattle.std.specs.Prelude.{◌≡◌, pos, negsuc, ◌+ℤ◌, ◌≤ℤ◌};
-ghost use Rattle.voice.specs.Frame.{contributions, sum, limited, height, word, side, frame};
+ghost use Rattle.voice.specs.Frame.{contributions, sum, limited, height, word, side, frame, totals};
 ghost use Rattle.voice.specs.Frame.{Ranged, AllBounded};
 
 use crate::stereo::{SideName, Stereo};
@@ -41,6 +41,16 @@ impl Stereo<Side> {
         Frame {
             left: new_side(voices, SideName::Left, converter),
             right: new_side(voices, SideName::Right, converter),
+        }
+    }
+
+    // The total of each side, before the limiter.
+    pub fn totals(&self) -> Stereo<i32>
+        ensures { result ≡ totals self.now }
+    {
+        Stereo {
+            left: self.left.total,
+            right: self.right.total,
         }
     }
 }

@@ -1,5 +1,5 @@
 -- What reads and writes of a board answer, by those of its parts.
-use Rattle.std.proofs.Common.{◌≡◌, ℕ, ◌+◌, ◌-◌, ◌<◌, ◌≤◌, min, Bool, true, false, cond, ◌&&◌, ltb, leb, List, [], ◌++◌, length, take, set, Ok, Err, Result, sym, refl, ap, ◌∙◌, ap₂, ⊎_elim, append-nil, arith}
+use Rattle.std.proofs.Common.{◌≡◌, ℕ, zero, suc, ◌+◌, ◌-◌, ◌<◌, ◌≤◌, min, Bool, true, false, cond, ◌&&◌, ltb, leb, List, [], ◌∷◌, ◌++◌, length, take, set, Ok, Err, Result, sym, refl, ap, ◌∙◌, ap₂, ⊎_elim, append-nil, arith}
 use Rattle.std.proofs.lemmas.List.{length-append, length-take, take_all, length-set, get_or_append_left, get_or-append_right, set-append_left, set-append_right}
 use Rattle.std.proofs.lemmas.Bool.{lt-ltb, le-ltb, le-leb, lt-leb, and_from, and_left, and_right, cond-true, cond-false, cases_lt}
 use Rattle.outcome.specs.Outcome.{granted, kept}
@@ -10,6 +10,7 @@ use Rattle.wave.specs.declared.memory.Refusal.{Refusal}
 use Rattle.wave.specs.declared.memory.Refusal.TheVariants.{ReadOnly, PastEnd}
 use Rattle.wave.proofs.Writes.{fetch_inside, fetch_past, store_inside, store_at, store_past}
 use Rattle.std.specs.Result.{result_map_both}
+use Rattle.wave.proofs.Runs.{one_meaning}
 use Rattle.wave.proofs.Limits.{used_length, used_at, used-set}
 
 -- Reads
@@ -59,6 +60,38 @@ alike_with_none lent =
           ap (λ t. t && true) there
           ∙ sym (ap₂ (λ s t. s && cond t (t && true) ((rom []).takes (place - length (used lent)))) joined_there there);
     }
+
+-- a memory over bytes that take writes everywhere or nowhere, and a board of memories over their parts
+
+cut_twice : (n m : ℕ) (a : List ℕ) → n ≤ m → take n (take m a) ≡ take n a
+cut_twice zero m a h = refl
+cut_twice (suc n) zero a h = absurd (omega arith)
+cut_twice (suc n) (suc m) [] h = refl
+cut_twice (suc n) (suc m) (x ∷ a) h = ap (λ l. x ∷ l) (cut_twice n m a (omega arith))
+
+cut_apart : (n m : ℕ) (a b : List ℕ) → n ≤ m → take n (a ++ b) ≡ take n (take n a ++ take m b)
+cut_apart zero m a b h = refl
+cut_apart (suc n) zero a b h = absurd (omega arith)
+cut_apart (suc n) (suc m) [] b h = sym (cut_twice (suc n) (suc m) b h)
+cut_apart (suc n) (suc m) (x ∷ a) b h = ap (λ l. x ∷ l) (cut_apart n (suc m) a b (omega arith))
+
+joined_parts : (a b : List ℕ) → joined (used a) (used b) ≡ used (a ++ b)
+unfolding joined used
+joined_parts a b = sym (cut_apart most most a b (omega arith))
+
+pub one_of_parts : (t : Bool) (a b : List ℕ) → board (meaning (used a) (λ _. t)) (meaning (used b) (λ _. t)) ≡ meaning (used (a ++ b)) (λ _. t)
+one_of_parts t a b = one_meaning (joined (used a) (used b)) (used (a ++ b)) _ (λ _. t) (record { bytes = joined_parts a b; takes = alike })
+  where
+    alike : (place : ℕ) → place < length (joined (used a) (used b)) →
+        (ltb place (length (joined (used a) (used b))) && either (meaning (used a) (λ _. t)) (meaning (used b) (λ _. t)) place)
+        ≡ (ltb place (length (used (a ++ b))) && t)
+    alike place h =
+        let e = joined_length (used a) (used b) in
+        ap₂ ◌&&◌ (ap (λ bs. ltb place (length bs)) (joined_parts a b))
+        (⊎_elim
+        (λ i. ap (λ s. cond s (s && t) (ltb (place - length (used a)) (length (used b)) && t)) (lt-ltb place (length (used a)) i))
+        (λ p. ap₂ (λ s r. cond s (s && t) (r && t)) (le-ltb place (length (used a)) p) (lt-ltb (place - length (used a)) (length (used b)) (omega arith)))
+        (cases_lt place (length (used a))))
 
 -- Writes
 
