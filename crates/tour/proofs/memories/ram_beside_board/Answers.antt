@@ -3,7 +3,7 @@ use Rattle.wave.specs.Memory.{Alike}
 use Rattle.wave.specs.Lent.{ram, rom}
 use Rattle.wave.specs.Board.{board}
 use Rattle.wave.proofs.Joins.{alike_with_none}
-use Rattle.tour.proofs.ram_beside_board.Goals as goal
+use Rattle.tour.proofs.memories.ram_beside_board.Goals as goal
 
 over_same : (a b d lent : List ℕ) → a ≡ lent → b ≡ lent → d ≡ [] → Alike (ram a) (board (ram b) (rom d))
 over_same a b d lent p q r = rw (p, q, r) (alike_with_none lent)
