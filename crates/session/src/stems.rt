@@ -36,8 +36,15 @@ impl<M: Store> Stems for &mut [Station<'_, '_, M>] {
     ghost models = { λ stems. map (model M.bytes M.takes) stems.now };
 
     fn try_each(&mut self, call: Call) {
-        for station in self.iter_mut() {
-            station.try_call(call);
-        }
+        try_row(self, call);
+    }
+}
+
+fn try_row<M: Store>(stations: &mut [Station<'_, '_, M>], call: Call)
+    ensures { map (model M.bytes M.takes) stations.new
+        ≡ map (tried call) (map (model M.bytes M.takes) stations.old) }
+{
+    for station in stations.iter_mut() {
+        station.try_call(call);
     }
 }
