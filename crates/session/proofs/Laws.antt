@@ -2,7 +2,6 @@
 use Rattle.std.proofs.Common.{◌≡◌, ℕ, true, List, [], ◌∷◌, map, length, ℤ, Some, Result, sym, refl, ap, ◌∙◌, arith}
 use Rattle.std.specs.List.{AllByRecursion}
 use Rattle.std.proofs.lemmas.Bool.{false≢true}
-use Rattle.outcome.specs.Outcome as outcome
 use Rattle.outcome.specs.Outcome.{kept}
 use Rattle.voice.specs.Frame.{sum, contributions, Frame}
 use Rattle.voice.specs.declared.frame.Converter.TheVariants.{Bits16}

@@ -1,5 +1,5 @@
 -- Whole runs of a mix and its stems.
-use Rattle.std.proofs.Common.{◌≡◌, ℕ, ◌+◌, ◌<◌, ◌≤◌, Bool, List, [], ◌∷◌, ◌++◌, map, length, drop, get_or, Some, Result, sym, refl, ap, subst, ◌∙◌, arith}
+use Rattle.std.proofs.Common.{◌≡◌, ℕ, ◌+◌, ◌<◌, ◌≤◌, List, [], ◌∷◌, map, length, drop, get_or, Some, Result, sym, ap, subst, ◌∙◌, arith}
 use Rattle.std.proofs.lemmas.Simd.{map-map}
 use Rattle.std.proofs.lemmas.List.{drop_more, drop_all, map-id}
 use Rattle.std.specs.List.{AllByRecursion}
@@ -9,10 +9,9 @@ use Rattle.kind.specs.declared.Kind.{Kind}
 use Rattle.session.specs.Station.{Model, tried, tried_all}
 use Rattle.session.specs.Groups.{Divides}
 use Rattle.session.specs.Stems.{Each, Begun, StemOf, MixAndStems}
-use Rattle.session.specs.Law.{Together, steps, enough, step_after, StopsAfter, StopAlike, Throughout, Law}
+use Rattle.session.specs.Law.{Together, step_after, StopsAfter, StopAlike, Throughout, Law}
 use Rattle.session.specs.declared.call.Answer.TheVariants as answered
 use Rattle.session.specs.declared.call.Call.{Call}
-use Rattle.session.specs.declared.call.Call.TheVariants.{Chip, Step}
 use Rattle.session.proofs.Keeping.{step_of, stem_tried, begun_stems}
 use Rattle.session.proofs.Laws.{level, still, together}
 use Rattle.session.proofs.Stopping.{FirstStop, find_stop}

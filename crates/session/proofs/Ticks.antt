@@ -1,6 +1,5 @@
 -- Granted ticks: their frames, and eight voices.
 use Rattle.std.proofs.Common.{◌≡◌, ℕ, Bool, true, cond, eqb, List, length, Option, Some, Ok, Err, Result, refl, ◌∙◌, arith}
-use Rattle.outcome.specs.Outcome as outcome
 use Rattle.outcome.specs.Outcome.{kept}
 use Rattle.voice.specs.Frame.{frame as frame-of, Frame}
 use Rattle.chip.specs.Port.{State as ChipState, memory_size, filled}

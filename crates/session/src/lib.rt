@@ -2,6 +2,7 @@
 #![tactic(auto)]
 
 pub mod call;
+pub mod groups;
 pub mod session;
 pub mod station;
 pub mod stems;

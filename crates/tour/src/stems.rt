@@ -3,6 +3,7 @@ use crate::tune::{ROM_WAVE, ROM_WAVE_PLACE};
 use kind::Kind;
 use player::player::Progress;
 use session::call::{Answer, Call};
+use session::groups::divides;
 use session::session::Session;
 use session::station::Station;
 use std::io;
@@ -139,6 +140,9 @@ pub fn show_stems(rt: &HostRuntime, log: &[u8]) -> io::Result<()> {
         if let Some(cell) = rom.get_mut(place) {
             *cell = byte;
         }
+    }
+    if divides(&[LOW, HIGH]) {
+        println!(rt; "divided the eight voices into 1 to 4 and 5 to 8")?;
     }
     show_play(rt, log, rom.as_slice())?;
     show_tick(rt, log, rom.as_slice())
