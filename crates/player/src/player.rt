@@ -1,10 +1,11 @@
 // A player: it plays a log on a chip, step by step.
-ghost use Rattle.std.specs.Prelude.{◌≡◌, ℕ, ◌+◌, ◌≤◌, true, length};
+ghost use Rattle.std.specs.Prelude.{◌≡◌, ℕ, ◌+◌, ◌<◌, ◌≤◌, true, false, length};
 ghost use Rattle.voice.specs.Frame.{Frame as FrameValue};
 ghost use Rattle.chip.specs.Chip.{state};
 ghost use Rattle.chip.specs.Port.{State as ChipState, tick, filled};
 ghost use Rattle.register_log.specs.Header.{header};
 ghost use Rattle.register_log.specs.Record.{values, in_window};
+ghost use Rattle.player.specs.Left.{stops, left};
 ghost use Rattle.player.specs.Step.{stand, new, Stepped, stepped, settled, for_kind, opened, obeyed, waited, put, put_down, step, framed};
 
 use crate::fault::Fault;
@@ -72,6 +73,8 @@ impl<'a> Player<'a> {
             ≡ framed frame.old
             (step self.old.reader.log.now (state M.bytes M.takes chip.old) (stand self.old)) result }
         ensures log { self.new.reader.log.now ≡ self.old.reader.log.now }
+        ensures nearer { stops result ≡ false →
+            left self.old.reader.log.now (stand self.new) < left self.old.reader.log.now (stand self.old) }
     {
         let answer = self.advance(chip, frame);
         if let Err(fault) = answer {

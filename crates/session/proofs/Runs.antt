@@ -89,7 +89,7 @@ law kind groups div calls mix stems b =
       throughout = throughout groups div calls mix stems w;
       stop = λ h.
           stop_alike groups div calls mix stems w
-          (find_stop calls mix (grind (arith, b.new_mix.player)) (grind (arith, b.new_mix.player, h)));
+          (find_stop calls mix (grind (arith, b.new_mix.player, h)));
     }
 
 -- Calls tried one by one, from the i-th on

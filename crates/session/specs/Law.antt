@@ -1,5 +1,5 @@
 -- The stems add up to the mix.
-use Rattle.std.specs.Prelude.{◌≡◌, ℕ, suc, ◌+◌, ◌-◌, ◌*◌, ◌/◌, ◌<◌, ◌≤◌, Bool, true, false, List, [], ◌∷◌, ◌++◌, map, length, slice_index_or, Option, None, Some, Ok, Err, Result}
+use Rattle.std.specs.Prelude.{◌≡◌, ℕ, suc, ◌-◌, ◌/◌, ◌<◌, ◌≤◌, Bool, true, false, List, [], ◌∷◌, ◌++◌, map, length, slice_index_or, Option, None, Some, Ok, Err, Result}
 use Rattle.std.specs.List.{AllByRecursion}
 use Rattle.voice.specs.Frame.{sum}
 use Rattle.voice.specs.Voice.{fresh, silence, Contribution}
@@ -12,6 +12,7 @@ use Rattle.calls.specs.declared.Call.TheVariants.{Reset, Write, Read, Inspect, T
 use Rattle.player.specs.declared.fault.Fault.{Fault}
 use Rattle.player.specs.declared.player.Progress.{Progress}
 use Rattle.player.specs.declared.player.Progress.TheVariants.{Taken, Ticked, Ended}
+use Rattle.player.specs.Left.{stops, enough}
 use Rattle.session.specs.Station.{Model, tried, tried_all}
 use Rattle.session.specs.Groups.{holds}
 use Rattle.session.specs.Stems.{Each, MixAndStems}
@@ -107,17 +108,6 @@ abbrev pub steps : List Call → ℕ
 steps [] = 0
 steps (Chip call ∷ rest) = steps rest
 steps (Step ∷ rest) = suc (steps rest)
-
--- so many steps stop the player of a log: a record takes more than a bit, and a wait fewer than 65,536 ticks
-abbrev pub enough : List ℕ → ℕ
-enough log = 2 + 65536 * (8 * length log + 1)
-
--- a player stops with an answer of ended, or a fault
-abbrev pub stops : Result Progress Fault → Bool
-stops (Ok Taken) = false
-stops (Ok Ticked) = false
-stops (Ok (Ended bit)) = true
-stops (Err fault) = true
 
 -- what a step answers after some calls
 abbrev pub step_after : List Call → Model → Option Answer
