@@ -35,7 +35,7 @@ fn refused() -> [(Record<'static>, u16); 11] {
     ]
 }
 
-// At the first record, which a wait is before its first tick.
+// At the first record; a wait is taken, and its first tick refused.
 #[test]
 fn memory_of_another_size(rt: HostRuntime) -> Result<(), Fail> {
     for size in [0, 65_535, 65_537, 131_072] {
@@ -54,7 +54,7 @@ fn memory_of_another_size(rt: HostRuntime) -> Result<(), Fail> {
     Ok(())
 }
 
-// Behind a register and a wait, of which the last tick is refused where the record is the wait itself.
+// Behind a register and a wait that were played on a chip over a memory of the right size.
 #[test]
 fn later_on_a_memory_of_another_size(rt: HostRuntime) -> Result<(), Fail> {
     let mut bytes = vec![in rt.alloc(); 0u8; 65_536]?;
@@ -78,6 +78,7 @@ fn later_on_a_memory_of_another_size(rt: HostRuntime) -> Result<(), Fail> {
     Ok(())
 }
 
+// The bit is that of the wait, though the player stands behind it.
 #[test]
 fn last_tick_of_a_wait(rt: HostRuntime) -> Result<(), Fail> {
     let mut bytes = vec![in rt.alloc(); 0u8; 65_536]?;

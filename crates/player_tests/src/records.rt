@@ -108,7 +108,6 @@ fn window_bytes_and_blocks(rt: HostRuntime) -> Result<(), Fail> {
                 70,
                 &[Write(7, 0x83), Write(0x1234, 0xAB)],
             ),
-            (&[block(0x800, &[0xFF])], 72, &[Write(0x1800, 0xFF)]),
             (
                 &[register(7, 0x0F), block(0xFFD, &[0x81, 0x82, 0x83])],
                 104,
@@ -156,9 +155,8 @@ fn waits(rt: HostRuntime) -> Result<(), Fail> {
                     window(0x004, 0xFF),
                     register(5, 0x20),
                     wait(2),
-                    block(0x800, &[0xC1, 0xC2]),
                 ],
-                232,
+                183,
                 &[
                     Write(7, 0xC2),
                     Write(0, 0x80),
@@ -172,8 +170,6 @@ fn waits(rt: HostRuntime) -> Result<(), Fail> {
                     Write(5, 0x20),
                     Tick,
                     Tick,
-                    Write(0x1800, 0xC1),
-                    Write(0x1801, 0xC2),
                 ],
             ),
         ],
