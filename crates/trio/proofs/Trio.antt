@@ -18,7 +18,6 @@ use Rattle.session.specs.Law.{Law}
 use Rattle.session.specs.declared.call.Call.{Call}
 use Rattle.session.proofs.Runs.{law as the_law}
 use Rattle.trio.specs.Trio.{groups, mix, low_stem, high_stem, stems, zeroed, tick, after, totals_of, ticked, AddUp}
-use Rattle.trio.specs.declared.Totals.{Totals}
 
 once : (k : ℕ) → k < 8 → holders groups k ≡ 1
 once zero h = refl
@@ -52,9 +51,10 @@ adds : (m l h : Model) → (rule.ticked tick m.answer ≡ true → rule.AddUp m 
 adds m l h f = by (rule.ticked tick m.answer) f
   where
     by : (t : Bool) → (t ≡ true → rule.AddUp m (l ∷ h ∷ [])) → AddUp (cond t (Some (record { mix = totals m.frame; low = totals l.frame; high = totals h.frame })) None)
-    by true f =
-        (ap (λ x. l.frame.left.total +ℤ x) (sym (+ℤ_idr h.frame.left.total)) ∙ (f refl).left,
-        ap (λ x. l.frame.right.total +ℤ x) (sym (+ℤ_idr h.frame.right.total)) ∙ (f refl).right)
+    by true f = (
+      ap (λ x. l.frame.left.total +ℤ x) (sym (+ℤ_idr h.frame.left.total)) ∙ (f refl).left,
+      ap (λ x. l.frame.right.total +ℤ x) (sym (+ℤ_idr h.frame.right.total)) ∙ (f refl).right,
+    )
     by false f = tt
 
 -- over memories of one meaning

@@ -1,5 +1,5 @@
 -- A mix and two stems: voices 1 to 4, and voices 5 to 8.
-use Rattle.std.specs.Prelude.{◌≡◌, ℕ, Bool, cond, List, [], ◌∷◌, ◌++◌, replicate, Option, Some, None, ◌+ℤ◌}
+use Rattle.std.specs.Prelude.{◌≡◌, ℕ, cond, List, [], ◌∷◌, replicate, Option, Some, None, ◌+ℤ◌}
 use Rattle.wave.specs.Memory.{Memory}
 use Rattle.wave.specs.Lent.{ram}
 use Rattle.voice.specs.Frame.{totals}

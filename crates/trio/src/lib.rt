@@ -21,6 +21,7 @@ use wave::rom::Rom;
 
 // Voices 1 to 4, and voices 5 to 8.
 pub const LOW: u8 = 0x0F;
+
 pub const HIGH: u8 = 0xF0;
 
 // The totals of one tick.

@@ -1,4 +1,4 @@
-use Rattle.std.proofs.Common.{◌≡◌, [], ◌∷◌, map, ap, ap₂, ◌∙◌, arith}
+use Rattle.std.proofs.Common.{[], ◌∷◌, map, ap, ap₂, ◌∙◌, arith}
 use Rattle.session.specs.Station.{tried, tried_all}
 use Rattle.trio.specs.Trio.{tick}
 use Rattle.trio.proofs.Trio.{granted}
