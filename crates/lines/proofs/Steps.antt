@@ -1,13 +1,13 @@
 -- What the writes of a number and of a line come to.
-use Rattle.std.proofs.Common.{◌≡◌, ℕ, suc, ◌+◌, ◌-◌, ◌/◌, ◌%◌, ◌^◌, ◌<◌, ◌≤◌, List, [], ◌∷◌, ◌++◌, length, set, ℤ, pos, negsuc, ◌∙◌, ap, arith, length-append, sym, refl}
+use Rattle.std.proofs.Common.{◌≡◌, ℕ, suc, ◌+◌, ◌-◌, ◌*◌, ◌/◌, ◌%◌, ◌^◌, ◌<◌, ◌≤◌, List, [], ◌∷◌, ◌++◌, length, set, ℤ, pos, negsuc, ◌∙◌, ap, arith, length-append, length-set, sym, refl}
 use Rattle.std.specs.Prelude.{◌<ℤ◌, unsigned_abs}
 use Rattle.std.specs.Fmt.{decimal, signed_decimal}
 use Rattle.std.proofs.lemmas.Fmt.{decimal_digit, decimal_step}
 use Rattle.std.proofs.lemmas.Bool.{cond-true, le-leb}
-use Rattle.lines.specs.Placed.{placed}
+use Rattle.lines.specs.Placed.{placed, paired}
 use Rattle.lines.specs.Line.{tick_line, roomy, put}
 use Rattle.lines.proofs.Writes.{length-placed, placed_byte, placed_last, placed_more}
-use Rattle.lines.proofs.Digits.{one_digit, more_digits, digits_some, digits_most}
+use Rattle.lines.proofs.Digits.{one_digit, two_digits, more_digits, digits_some, digits_most}
 
 -- one digit of a number that has more, from the last on
 pub digit_written :
@@ -21,7 +21,33 @@ digit_written b p q n h u e l =
 pub digit_alone : (b : List ℕ) (p n : ℕ) → n < 10 → p < length b → set b p (48 + n) ≡ placed b p (decimal n)
 digit_alone b p n h l = placed_byte b p (48 + n) l ∙ ap (λ t. placed b p t) (sym (decimal_digit n h))
 
-pub ruleset digits_step = (digit_written, digit_alone, one_digit, more_digits, digits_some, digits_most)
+-- two digits of a number that has more
+pub pair_written :
+    (b : List ℕ) (p q n : ℕ) → 100 ≤ n → n < 2 ^ 32 → q + 1 ≡ p + length (decimal n) → q < length b →
+    placed (paired b q (n % 100)) p (decimal (n / 100)) ≡ placed b p (decimal n)
+pair_written b p q n h u e l =
+    let b' : List ℕ = set b q (48 + n % 10) in
+    let first : n % 100 % 10 ≡ n % 10 = omega arith in
+    let second : n % 100 / 10 ≡ n / 10 % 10 = omega arith in
+    let rest : n / 100 ≡ n / 10 / 10 = omega arith in
+    let more = more_digits n (omega arith) u in
+    let some = digits_some (n / 10) (omega arith) in
+    ap (λ d. placed (set (set b q (48 + d)) (q - 1) (48 + n % 100 / 10)) p (decimal (n / 100))) first
+    ∙ ap (λ d. placed (set b' (q - 1) (48 + d)) p (decimal (n / 100))) second
+    ∙ ap (λ m. placed (set b' (q - 1) (48 + n / 10 % 10)) p (decimal m)) rest
+    ∙ digit_written b' p (q - 1) (n / 10) (omega arith) (omega arith) (omega arith) (omega (arith, length-set b q (48 + n % 10)))
+    ∙ digit_written b p q n (omega arith) u e l
+
+-- the last two
+pub pair_alone : (b : List ℕ) (p n : ℕ) → 10 ≤ n → n < 100 → p + 1 < length b → paired b (p + 1) n ≡ placed b p (decimal n)
+pair_alone b p n h u l =
+    let b' : List ℕ = set b (p + 1) (48 + n % 10) in
+    let back : p + 1 - 1 ≡ p = omega arith in
+    ap (λ k. set b' k (48 + n / 10)) back
+    ∙ digit_alone b' p (n / 10) (omega arith) (omega (arith, length-set b (p + 1) (48 + n % 10)))
+    ∙ digit_written b p (p + 1) n h (omega arith) (omega (arith, two_digits n h u)) l
+
+pub ruleset digits_step = (digit_alone, pair_alone, one_digit, two_digits, more_digits, digits_some, digits_most)
 
 -- a byte behind a text
 last_byte :
