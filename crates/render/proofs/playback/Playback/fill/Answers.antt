@@ -1,4 +1,4 @@
-use Rattle.std.proofs.Common.{◌++◌, take, refl, sym, ap, ◌∙◌, arith, Ok, Err, to_z-of_z, rules, SFits, w32}
+use Rattle.std.proofs.Common.{◌≤◌, ◌-◌, ◌++◌, length, take, refl, sym, ap, ◌∙◌, arith, Ok, Err, to_z-of_z, rules, SFits, w32}
 use Rattle.player.specs.declared.player.Progress.TheVariants.{Taken, Ticked, Ended as AtEnd}
 use Rattle.render.specs.Text.{frame_line}
 use Rattle.render.specs.Playback.{rest}
@@ -31,6 +31,7 @@ loop-buffer-smaller g c =
 
 pub loop-buffer-preserved : goal.loop-buffer-preserved
 loop-buffer-preserved g c =
+    let room : 24 ≤ length c.loop-buffer.buffer - c.loop-buffer.length = omega arith in
     let left_fits : SFits w32 c.step.new.frame.left.total = search rules in
     let right_fits : SFits w32 c.step.new.frame.right.total = search rules in
     let written = simp to_z-of_z at c.put_tick-length.ensures.buffer in
@@ -45,14 +46,14 @@ loop-buffer-preserved g c =
       same_length = c.put_tick-length.auto.buffer ∙ c.loop-buffer.invariant.same_length;
       beyond =
           beyond_kept c.loop-buffer.buffer c.put_tick-length.new.buffer c.loop-buffer.length c.put_tick-length.result (frame_line c.step.new.frame)
-          c.loop-buffer-test.true written next c.args.buffer.now c.loop-buffer.invariant.beyond;
+          room written next c.args.buffer.now c.loop-buffer.invariant.beyond;
       same =
           c.loop-buffer.invariant.same
           ∙ ap (λ t. take c.loop-buffer.length c.loop-buffer.buffer ++ t)
           (played_on g.M.Source.bytes g.M.Store.takes c.loop-buffer.self c.step.new.chip c.step.new.self (Ok Ticked) c.in-Ok-Ticked.ensures.log outcome
           ∙ ap (λ t. t ++ rest g.M.Source.bytes g.M.Store.takes record { chip = c.step.new.chip; player = c.step.new.self }) (sym told))
           ∙ piece_grown c.loop-buffer.buffer c.put_tick-length.new.buffer c.loop-buffer.length c.put_tick-length.result (frame_line c.step.new.frame)
-          c.loop-buffer-test.true written next (rest g.M.Source.bytes g.M.Store.takes record { chip = c.step.new.chip; player = c.step.new.self });
+          room written next (rest g.M.Source.bytes g.M.Store.takes record { chip = c.step.new.chip; player = c.step.new.self });
     }
 
 pub returns-in-Ok-Ended-clause-text : goal.returns-in-Ok-Ended-clause-text
