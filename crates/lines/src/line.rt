@@ -49,7 +49,13 @@ mod tests {
     #[test]
     fn room(rt: HostRuntime) {
         let mut buffer = [b'.'; 30];
-        for (place, end) in [(6, 10), (7, 7), (30, 30), (31, 31), (usize::MAX, usize::MAX)] {
+        for (place, end) in [
+            (6, 10),
+            (7, 7),
+            (30, 30),
+            (31, 31),
+            (usize::MAX, usize::MAX),
+        ] {
             assert_eq!(rt; put_tick(&mut buffer, place, 0, 0), end);
         }
         assert_eq!(rt; &buffer, b"......0 0\n....................");
