@@ -1,8 +1,9 @@
 -- The input of `stem`.
 use Rattle.std.specs.Prelude.{ℕ, cond, List, [], ◌∷◌, ◌++◌, length, Ok, Err, codes, Result, nat_le}
 use Rattle.std.specs.Fmt.{decimal}
+use Rattle.kind.specs.declared.Kind.{Kind}
+use Rattle.kind.specs.declared.Kind.TheVariants.{Rf5c68a}
 use Rattle.register_log.specs.Fault.{number as log-number}
-use Rattle.register_log.specs.Header.{header}
 use Rattle.register_log.specs.declared.fault.Fault.{Fault}
 use Rattle.register_log.specs.declared.fault.Fault.TheVariants.{Length}
 use Rattle.register_log.specs.declared.header.Header.{Header}
@@ -41,14 +42,7 @@ abbrev pub work : List ℕ → Result Work Refusal
 work [] = Err (Log Length)
 work (mutes ∷ log) = cond (nat_le (length log) most) (Ok (record { mutes = mutes; log = log })) (Err TooLong)
 
--- the header of the log that is to be played
-abbrev pub in_log : Result Header Fault → Result Header Refusal
-in_log (Ok h) = Ok h
-in_log (Err fault) = Err (Log fault)
-
-abbrev pub header_of : Result Work Refusal → Result Header Refusal
-header_of (Ok w) = in_log (header w.log)
-header_of (Err e) = Err e
-
-abbrev pub decided : List ℕ → Result Header Refusal
-decided input = header_of (work input)
+-- the kind of the chip that plays a log, from its header: an RF5C68A where that is refused
+abbrev pub kind : Result Header Fault → Kind
+kind (Ok h) = h.kind
+kind (Err fault) = Rf5c68a

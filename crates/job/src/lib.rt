@@ -2,9 +2,11 @@
 #![tactic(auto)]
 
 ghost use Rattle.std.specs.Prelude.{◌≡◌, Some};
-ghost use Rattle.job.specs.Job.{number, layer, text, work, values, decided};
+ghost use Rattle.register_log.specs.Header.{header};
+ghost use Rattle.job.specs.Job.{number, layer, text, work, values, kind};
 ghost use Rattle.job.specs.declared.Refusal.TheVariants.{Log};
 
+use kind::Kind;
 use register_log::fault::Fault;
 use register_log::header::Header;
 use std::fmt;
@@ -79,76 +81,72 @@ impl<'a> Job<'a> {
         }
         Ok(Job { mutes: *mutes, log })
     }
-}
 
-// The header of the log that is to be played.
-pub fn decide(input: &[u8]) -> Result<Header, Refusal>
-    ensures { result ≡ decided input.now }
-{
-    let job = Job::read(input)?;
-    Ok(Header::read(job.log)?)
+    // The kind of the chip that plays the log: its header's, or an RF5C68A where the header is refused.
+    pub fn kind(self) -> Kind
+        ensures { result ≡ kind (header self.entry.log.now) }
+    {
+        Header::read(self.log).map_or(Kind::Rf5c68a, |header| header.kind)
+    }
 }
 
 #[cfg(test)]
 mod tests {
     use super::*;
-    use kind::Kind;
     use std::test::Fail;
 
-    // Inputs of a mute set and a header, and the number of the refusal, if any.
-    const HEADERS: [([u8; 5], Option<u8>); 12] = [
-        ([0x00, 0x10, 0x98, 0x96, 0x80], None),
-        ([0xFF, 0x10, 0x00, 0x00, 0x01], None),
-        ([0x00, 0x10, 0x98, 0x96, 0x81], Some(8)),
-        ([0x00, 0x10, 0x00, 0x00, 0x00], Some(8)),
-        ([0x00, 0x18, 0xBF, 0x0A, 0x40], None),
-        ([0x00, 0x18, 0xBF, 0x0A, 0x41], Some(8)),
-        ([0x00, 0x18, 0x00, 0x00, 0x00], Some(8)),
-        ([0x00, 0x00, 0x98, 0x96, 0x80], Some(8)),
-        ([0x00, 0x20, 0x98, 0x96, 0x80], Some(8)),
-        ([0x00, 0x11, 0x98, 0x96, 0x80], Some(8)),
-        ([0x00, 0x14, 0x98, 0x96, 0x80], Some(8)),
-        ([0x00, 0x90, 0x98, 0x96, 0x80], Some(8)),
+    // Headers, and whether the chip is an RF5C164.
+    const HEADERS: [(&'static [u8], bool); 8] = [
+        (&[0x10, 0x98, 0x96, 0x80], false),
+        (&[0x18, 0xBF, 0x0A, 0x40], true),
+        (&[0x18, 0x00, 0x00, 0x01], true),
+        (&[0x18, 0xBF, 0x0A, 0x41], false),
+        (&[0x18, 0x00, 0x00, 0x00], false),
+        (&[0x28, 0xBF, 0x0A, 0x40], false),
+        (&[0x1A, 0xBF, 0x0A, 0x40], false),
+        (&[0x18, 0xBF, 0x0A], false),
     ];
 
-    fn number(decision: Result<Header, Refusal>) -> Option<u8> {
-        decision.err().map(Refusal::number)
-    }
-
     #[test]
-    fn headers(rt: HostRuntime) {
-        for (input, refused) in HEADERS {
-            assert_eq!(rt; number(decide(&input)), refused);
+    fn kinds(rt: HostRuntime) {
+        for (log, is_164) in HEADERS {
+            let job = Job { mutes: 0, log };
+            assert_eq!(rt; job.kind() == Kind::Rf5c164, is_164);
         }
     }
 
     #[test]
-    fn kind_and_clock(rt: HostRuntime) -> Result<(), Fail> {
-        let Ok(header) = decide(&[0x00, 0x18, 0xBF, 0x0A, 0x40]) else {
+    fn mutes_and_log(rt: HostRuntime) -> Result<(), Fail> {
+        let Ok(job) = Job::read(&[0xFE, 0x10, 0x98]) else {
             return Err(Fail::new("refused"));
         };
-        assert_eq!(rt;
-            header,
-            Header {
-                kind: Kind::Rf5c164,
-                clock: 12_520_000,
-            }
-        );
+        assert_eq!(rt; job.mutes, 0xFE);
+        assert_eq!(rt; job.log, [0x10, 0x98].as_slice());
         Ok(())
     }
 
     #[test]
     fn lengths(rt: HostRuntime) -> Result<(), Fail> {
-        for (length, refused) in [(0, 7), (1, 7), (4, 7), (5, 8), (32_769, 8), (32_770, 13)] {
+        for (length, refused) in [(0, Some(7)), (1, None), (32_769, None), (32_770, Some(13))] {
             let input = vec![in rt.alloc(); 0u8; length]?;
-            assert_eq!(rt; number(decide(input.as_slice())), Some(refused));
+            let number = Job::read(input.as_slice()).err().map(Refusal::number);
+            assert_eq!(rt; number, refused);
         }
         Ok(())
     }
 
     #[test]
-    fn layers(rt: HostRuntime) {
-        assert_eq!(rt; Refusal::Log(Fault::Length).layer(), "log");
-        assert_eq!(rt; Refusal::TooLong.layer(), "program");
+    fn texts(rt: HostRuntime) -> Result<(), Fail> {
+        let short = Refusal::Log(Fault::Length);
+        assert_eq!(rt;
+            format!(in rt.alloc(); "{short}")?.as_str(),
+            "fault 7 log 0 0"
+        );
+        let long = Refusal::TooLong;
+        assert_eq!(rt;
+            format!(in rt.alloc(); "{long}")?.as_str(),
+            "fault 13 program 0 0"
+        );
+        Ok(())
     }
 }

@@ -1,0 +1,5 @@
+pub mod Budget
+pub mod Texts
+pub mod Pieces
+pub mod Outputs
+pub mod Inputs

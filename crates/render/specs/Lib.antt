@@ -1,0 +1,4 @@
+pub mod Last
+pub mod Text
+pub mod Playback
+pub mod Stem

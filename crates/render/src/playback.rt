@@ -1,0 +1,72 @@
+// A log that is played on a chip, as the text of its ticks: piece by piece, into a lent buffer.
+ghost use Rattle.std.specs.Prelude.{◌≡◌, ◌<◌, ◌≤◌, ◌++◌, length, take, drop, None};
+ghost use Rattle.lines.specs.Line.{longest};
+ghost use Rattle.player.specs.Step.{stand, new};
+ghost use Rattle.chip.specs.Chip.{state};
+ghost use Rattle.render.specs.Text.{text, closed};
+ghost use Rattle.render.specs.Playback.{rest};
+
+use crate::last::Last;
+use chip::chip::Chip;
+use lines::line::{LONGEST, put_tick};
+use player::player::{Player, Progress};
+use voice::frame::Frame;
+use wave::memory::Store;
+
+#[derive(Drop)]
+pub struct Playback<'a, M> {
+    chip: Chip<M>,
+    player: Player<'a>,
+}
+
+// A piece of the text: so many bytes of whole lines, and the last line, once the player has stopped.
+#[derive(Clone, Copy, PartialEq, Eq, Debug)]
+pub struct Piece {
+    pub length: usize,
+    pub last: Option<Last>,
+}
+
+impl<'a, M: Store> Playback<'a, M> {
+    pub fn new(chip: Chip<M>, log: &'a [u8]) -> Playback<'a, M>
+        ensures { rest M.bytes M.takes result ≡ text log.now (state M.bytes M.takes chip) new }
+    {
+        Playback {
+            chip,
+            player: Player::new(log),
+        }
+    }
+
+    // Plays on, and writes the lines of the ticks to the buffer's front, until the player stops or the buffer has no room
+    // for a longest line.
+    pub fn fill(&mut self, buffer: &mut [u8]) -> Piece
+        ensures text { rest M.bytes M.takes self.old
+            ≡ take result.length buffer.new ++ closed result.last (rest M.bytes M.takes self.new) }
+        ensures beyond { drop result.length buffer.new ≡ drop result.length buffer.old }
+        ensures within { result.length ≤ length buffer.old }
+        ensures goes_on { longest ≤ length buffer.old → result.last ≡ None → 0 < result.length }
+    {
+        let mut frame = Frame::default();
+        let mut length = 0;
+        while buffer.len() - length >= LONGEST {
+            match self.player.step(&mut self.chip, &mut frame) {
+                Ok(Progress::Taken) => {}
+                Ok(Progress::Ticked) => {
+                    length = put_tick(buffer, length, frame.left.total, frame.right.total);
+                }
+                Ok(Progress::Ended(_)) => {
+                    return Piece {
+                        length,
+                        last: Some(Last::End),
+                    };
+                }
+                Err(fault) => {
+                    return Piece {
+                        length,
+                        last: Some(Last::Fault(fault)),
+                    };
+                }
+            }
+        }
+        Piece { length, last: None }
+    }
+}

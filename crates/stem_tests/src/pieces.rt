@@ -1,0 +1,42 @@
+// A playback, piece by piece.
+use crate::logs::ONE_VOICE;
+use chip::chip::Chip;
+use chip::registers::Setup;
+use kind::Kind;
+use render::last::Last;
+use render::playback::{Piece, Playback};
+use std::test::Fail;
+use voice::frame::Converter;
+use wave::ram::Ram;
+
+const SETUP: Setup = Setup {
+    kind: Kind::Rf5c68a,
+    converter: Converter::Bits8,
+    mutes: 0,
+};
+
+// A buffer of so many bytes, and the pieces that it gets one after another.
+const PIECES: [(usize, [(usize, bool); 4]); 4] = [
+    (0, [(0, false); 4]),
+    (23, [(0, false); 4]),
+    (24, [(8, false), (8, false), (0, true), (0, true)]),
+    (40, [(16, true), (0, true), (0, true), (0, true)]),
+];
+
+#[test]
+fn pieces(rt: HostRuntime) -> Result<(), Fail> {
+    for (size, pieces) in PIECES {
+        let mut bytes = vec![in rt.alloc(); 0u8; 65_536]?;
+        let chip = Chip::new(Ram::new(bytes.as_mut_slice()), SETUP);
+        let mut playback = Playback::new(chip, &ONE_VOICE[1..]);
+        let mut buffer = vec![in rt.alloc(); 0u8; size]?;
+        for (length, ended) in pieces {
+            let last = if ended { Some(Last::End) } else { None };
+            assert_eq!(rt;
+                playback.fill(buffer.as_mut_slice()),
+                Piece { length, last }
+            );
+        }
+    }
+    Ok(())
+}
