@@ -1,4 +1,3 @@
-pub mod Budget
 pub mod Texts
 pub mod Pieces
 pub mod Outputs

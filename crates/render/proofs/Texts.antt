@@ -1,5 +1,5 @@
 -- The text from where a player stands is a step's, and then the text from where that leaves it.
-use Rattle.std.proofs.Common.{◌≡◌, ℕ, zero, suc, ◌<◌, ◌≤◌, Bool, true, List, ◌++◌, Ok, Err, Result, refl, sym, ap, ◌∙◌, arith}
+use Rattle.std.proofs.Common.{◌≡◌, ℕ, zero, suc, ◌≤◌, Bool, false, List, ◌++◌, Ok, Err, Result, refl, sym, ap, ◌∙◌, arith}
 use Rattle.voice.specs.Frame.{Frame}
 use Rattle.chip.specs.Chip.{state}
 use Rattle.chip.specs.Port.{State as ChipState}
@@ -9,15 +9,16 @@ use Rattle.player.specs.declared.fault.Fault.{Fault}
 use Rattle.player.specs.declared.player.Player.{Player}
 use Rattle.player.specs.declared.player.Progress.{Progress}
 use Rattle.player.specs.declared.player.Progress.TheVariants.{Taken, Ticked, Ended as AtEnd}
-use Rattle.render.specs.Text.{left, frame_line, ticked_line, by_answer, onward, lines, text}
+use Rattle.player.specs.Left.{stops, left}
+use Rattle.render.specs.Text.{frame_line, ticked_line, by_answer, onward, lines, text}
 use Rattle.render.specs.Playback.{rest}
 use Rattle.render.specs.declared.playback.Playback.{Playback}
-use Rattle.render.proofs.Budget.{continues, step_leaves, one_left}
+use Rattle.player.proofs.Left.{step_leaves, one_left}
 
 -- what follows counts only after a step that does not stop the player
 same_following :
     (f g : ChipState → Stand → List ℕ) (c : ChipState) (p : Stand) (answer : Result Progress Fault) →
-    (continues answer ≡ true → f c p ≡ g c p) → by_answer f c p answer ≡ by_answer g c p answer
+    (stops answer ≡ false → f c p ≡ g c p) → by_answer f c p answer ≡ by_answer g c p answer
 same_following f g c p (Ok Taken) h = h refl
 same_following f g c p (Ok Ticked) h = ap (λ t. ticked_line c ++ t) (h refl)
 same_following f g c p (Ok (AtEnd bit)) h = refl
@@ -53,14 +54,6 @@ module _ {M : Type 0} (bytes : M → List ℕ) (takes : M → ℕ → Bool) (s :
       text_step s.player.reader.log.now (state bytes takes s.chip) (stand s.player)
       ∙ ap (onward (text s.player.reader.log.now)) (sym e)
       ∙ ap (λ x. by_answer (text x) (state bytes takes chip) (stand player) answer) (sym same)
-
-  pub lessened : continues answer ≡ true → left player.reader.log.now (stand player) < left s.player.reader.log.now (stand s.player)
-  lessened go =
-      let log : List ℕ = s.player.reader.log.now in
-      let t : Stepped = step log (state bytes takes s.chip) (stand s.player) in
-      let less : left log t.player < left log (stand s.player) =
-      step_leaves log (state bytes takes s.chip) (stand s.player) (ap (λ x. continues x.answer) (sym e) ∙ go) in
-      omega (arith, ap (λ x. left x (stand player)) same, ap (λ x. left log x.player) e)
 
   -- the frame that a tick filled has the line of that tick
   pub line_told : (before after : Frame) → after ≡ framed before (step s.player.reader.log.now (state bytes takes s.chip) (stand s.player)) (Ok Ticked) → frame_line after ≡ ticked_line (state bytes takes chip)

@@ -1,35 +1,16 @@
 -- What is printed of a log that is played on a chip: a line for each tick, and the last line.
-use Rattle.std.specs.Prelude.{ℕ, zero, suc, ◌+◌, ◌-◌, ◌*◌, cond, List, [], ◌++◌, length, Option, Some, None, Ok, Err, Result, codes, nat_lt}
+use Rattle.std.specs.Prelude.{ℕ, zero, suc, List, [], ◌++◌, Option, Some, None, Ok, Err, Result, codes}
 use Rattle.voice.specs.Frame.{frame, Frame}
 use Rattle.chip.specs.Port.{State as ChipState}
-use Rattle.register_log.specs.Header.{records_start}
+use Rattle.player.specs.Left.{left}
 use Rattle.player.specs.Step.{Stand, Stepped, step}
 use Rattle.player.specs.declared.fault.Fault.{Fault as PlayerFault}
 use Rattle.player.specs.declared.player.Progress.{Progress}
 use Rattle.player.specs.declared.player.Progress.TheVariants.{Taken, Ticked, Ended as AtEnd}
-use Rattle.player.specs.declared.player.State.{State}
-use Rattle.player.specs.declared.player.State.TheVariants.{Between, Waiting, Ended, Faulted}
 use Rattle.lines.specs.Line.{tick_line}
 use Rattle.render.specs.Last as last
 use Rattle.render.specs.declared.last.Last.{Last}
 use Rattle.render.specs.declared.last.Last.TheVariants.{End, Fault}
-
--- A bound on the steps that a player still takes, the one that stops it with them: a record has more than a bit, and a wait
--- fewer than 65,536 ticks
-
--- between two records, or before the header
-abbrev pub between_left : List ℕ → ℕ → ℕ
-between_left log place =
-    cond (nat_lt place records_start) (2 + 65536 * (8 * length log + 1)) (1 + 65536 * (8 * length log + 1 - place))
-
-abbrev pub left_by : List ℕ → ℕ → State → ℕ
-left_by log place Between = between_left log place
-left_by log place (Waiting bit n) = 1 + n + between_left log place
-left_by log place (Ended bit) = 1
-left_by log place (Faulted fault) = 1
-
-abbrev pub left : List ℕ → Stand → ℕ
-left log p = left_by log p.place p.state
 
 -- Lines
 

@@ -1,15 +1,10 @@
-use Rattle.std.proofs.Common.{◌≤◌, ◌-◌, ◌++◌, length, take, refl, sym, ap, ◌∙◌, arith, Ok, Err, to_z-of_z, rules, SFits, w32}
+use Rattle.std.proofs.Common.{◌≤◌, ◌-◌, ◌++◌, length, take, sym, ap, ◌∙◌, arith, Ok, Err, to_z-of_z, rules, SFits, w32}
 use Rattle.player.specs.declared.player.Progress.TheVariants.{Taken, Ticked, Ended as AtEnd}
 use Rattle.render.specs.Text.{frame_line}
 use Rattle.render.specs.Playback.{rest}
-use Rattle.render.proofs.Texts.{played_on, lessened, line_told}
+use Rattle.render.proofs.Texts.{played_on, line_told}
 use Rattle.render.proofs.Pieces.{piece_grown, beyond_kept}
 use Rattle.render.proofs.playback.Playback.fill.Goals as goal
-
-pub loop-buffer-smaller-in-Ok-Taken : goal.loop-buffer-smaller-in-Ok-Taken
-loop-buffer-smaller-in-Ok-Taken g c =
-    lessened g.M.Source.bytes g.M.Store.takes c.loop-buffer.self c.step.new.chip c.step.new.self (Ok Taken) c.in-Ok-Taken.ensures.log
-    (rw c.in-Ok-Taken.field-0-is at c.in-Ok-Taken.ensures.outcome) refl
 
 pub loop-buffer-preserved-in-Ok-Taken : goal.loop-buffer-preserved-in-Ok-Taken
 loop-buffer-preserved-in-Ok-Taken g c = record {
@@ -23,11 +18,6 @@ loop-buffer-preserved-in-Ok-Taken g c = record {
       (played_on g.M.Source.bytes g.M.Store.takes c.loop-buffer.self c.step.new.chip c.step.new.self (Ok Taken) c.in-Ok-Taken.ensures.log
       (rw c.in-Ok-Taken.field-0-is at c.in-Ok-Taken.ensures.outcome));
 }
-
-pub loop-buffer-smaller : goal.loop-buffer-smaller
-loop-buffer-smaller g c =
-    lessened g.M.Source.bytes g.M.Store.takes c.loop-buffer.self c.step.new.chip c.step.new.self (Ok Ticked) c.in-Ok-Ticked.ensures.log
-    (rw c.in-Ok-Ticked.field-0-is at c.in-Ok-Ticked.ensures.outcome) refl
 
 pub loop-buffer-preserved : goal.loop-buffer-preserved
 loop-buffer-preserved g c =

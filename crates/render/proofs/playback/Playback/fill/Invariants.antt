@@ -1,6 +1,6 @@
 use Rattle.std.proofs.Common.{◌≡◌, ◌≤◌, ◌++◌, length, take, drop}
 use Rattle.player.specs.Step.{stand}
-use Rattle.render.specs.Text.{left}
+use Rattle.player.specs.Left.{left}
 use Rattle.render.specs.Playback.{rest}
 use Rattle.render.proofs.playback.Playback.fill.Given as goal
 
