@@ -130,6 +130,28 @@ fn over_ram(rt: HostRuntime) -> Result<(), Fail> {
     Ok(())
 }
 
+// Voices 1 to 4 and voices 5 to 8, each station over a memory of its own make.
+fn check_halves<A: Store + Drop, B: Store + Drop, C: Store + Drop>(
+    rt: &impl Abort,
+    log: &[u8],
+    memories: (A, B, C),
+) {
+    let (mix, low, high) = memories;
+    let (kind, bits) = (Kind::Rf5c164, Converter::Bits10);
+    let (mut mix_buffer, mut low_buffer, mut high_buffer) = ([0; 16], [0; 16], [0; 16]);
+    let mut session = Session {
+        mix: Station::new(0xFF, kind, bits, mix, log, &mut mix_buffer),
+        stems: (
+            Station::new(0x0F, kind, bits, low, log, &mut low_buffer),
+            (
+                Station::new(0xF0, kind, bits, high, log, &mut high_buffer),
+                (),
+            ),
+        ),
+    };
+    check_drawn(rt, &mut session, &[0x0F, 0xF0]);
+}
+
 // Banks 8 to 15 take no writes.
 #[test]
 fn over_ram_and_rom(rt: HostRuntime) -> Result<(), Fail> {
@@ -142,7 +164,7 @@ fn over_ram_and_rom(rt: HostRuntime) -> Result<(), Fail> {
     let mut beside = samples(rt.alloc(), 32_768)?;
     let rom = samples(rt.alloc(), 32_768)?;
     let half = samples(rt.alloc(), 16_384)?;
-    let mix = Board {
+    let board = Board {
         first: Ram::new(whole.as_mut_slice()),
         second: Rom::new(rom.as_slice()),
     };
@@ -160,18 +182,6 @@ fn over_ram_and_rom(rt: HostRuntime) -> Result<(), Fail> {
             second: Rom::new(half.as_slice()),
         },
     };
-    let (kind, bits) = (Kind::Rf5c164, Converter::Bits10);
-    let (mut low_buffer, mut high_buffer, mut mix_buffer) = ([0; 16], [0; 16], [0; 16]);
-    let mut session = Session {
-        mix: Station::new(0xFF, kind, bits, mix, log, &mut mix_buffer),
-        stems: (
-            Station::new(0x0F, kind, bits, low, log, &mut low_buffer),
-            (
-                Station::new(0xF0, kind, bits, high, log, &mut high_buffer),
-                (),
-            ),
-        ),
-    };
-    check_drawn(&rt, &mut session, &[0x0F, 0xF0]);
+    check_halves(&rt, log, (board, low, high));
     Ok(())
 }

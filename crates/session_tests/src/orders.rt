@@ -6,9 +6,11 @@ use session::call::Call;
 use session::call::Call::Chip;
 use session::session::Session;
 use session::station::Station;
+use std::process::Abort;
 use std::test::Fail;
 use voice::frame::{Converter, Frame};
 use wave::board::Board;
+use wave::memory::Store;
 use wave::ram::Ram;
 use wave::rom::Rom;
 
@@ -88,6 +90,35 @@ fn totals(frame: &Frame) -> (i32, i32) {
     (frame.left.total, frame.right.total)
 }
 
+// The order over four memories, the first of them the mix's.
+fn check_order<A: Store + Drop, B: Store + Drop, C: Store + Drop, D: Store + Drop>(
+    rt: &impl Abort,
+    memories: (A, B, C, D),
+) {
+    let (mix, first, second, third) = memories;
+    let (kind, bits, log) = (Kind::Rf5c164, Converter::Bits16, &[]);
+    let [one, five, others] = GROUPS;
+    let mut session = Session {
+        mix: Station::new(0xFF, kind, bits, mix, log, &mut []),
+        stems: (
+            Station::new(one, kind, bits, first, log, &mut []),
+            (
+                Station::new(five, kind, bits, second, log, &mut []),
+                (Station::new(others, kind, bits, third, log, &mut []), ()),
+            ),
+        ),
+    };
+    for (index, (calls, expected)) in ORDER.into_iter().enumerate() {
+        for call in calls {
+            check_call(rt, &mut session, &GROUPS, *call);
+        }
+        check_call(rt, &mut session, &GROUPS, TICK);
+        let (one, (five, (others, ()))) = &session.stems;
+        let found = [&one.frame, &five.frame, &others.frame].map(totals);
+        assert_eq!(rt; found, expected, "{}", index);
+    }
+}
+
 #[test]
 fn over_three_makes(rt: HostRuntime) -> Result<(), Fail> {
     let mut bytes = vec![in rt.alloc(); 0u8; 65_536]?;
@@ -95,8 +126,6 @@ fn over_three_makes(rt: HostRuntime) -> Result<(), Fail> {
     let mut first = vec![in rt.alloc(); 0u8; 32_768]?;
     let mut second = vec![in rt.alloc(); 0u8; 32_768]?;
     let mut beside = vec![in rt.alloc(); 0u8; 65_536]?;
-    let mix = Ram::new(bytes.as_mut_slice());
-    let ram = Ram::new(whole.as_mut_slice());
     let halves = Board {
         first: Ram::new(first.as_mut_slice()),
         second: Ram::new(second.as_mut_slice()),
@@ -105,27 +134,10 @@ fn over_three_makes(rt: HostRuntime) -> Result<(), Fail> {
         first: Ram::new(beside.as_mut_slice()),
         second: Rom::new(&[]),
     };
-    let (kind, bits, log) = (Kind::Rf5c164, Converter::Bits16, &[]);
-    let [one, five, others] = GROUPS;
-    let stems = (
-        Station::new(one, kind, bits, ram, log, &mut []),
-        (
-            Station::new(five, kind, bits, halves, log, &mut []),
-            (Station::new(others, kind, bits, with_rom, log, &mut []), ()),
-        ),
+    let (mix, ram) = (
+        Ram::new(bytes.as_mut_slice()),
+        Ram::new(whole.as_mut_slice()),
     );
-    let mut session = Session {
-        mix: Station::new(0xFF, kind, bits, mix, log, &mut []),
-        stems,
-    };
-    for (index, (calls, expected)) in ORDER.into_iter().enumerate() {
-        for call in calls {
-            check_call(&rt, &mut session, &GROUPS, *call);
-        }
-        check_call(&rt, &mut session, &GROUPS, TICK);
-        let (one, (five, (others, ()))) = &session.stems;
-        let found = [&one.frame, &five.frame, &others.frame].map(totals);
-        assert_eq!(rt; found, expected, "{}", index);
-    }
+    check_order(&rt, (mix, ram, halves, with_rom));
     Ok(())
 }

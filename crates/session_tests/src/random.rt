@@ -23,7 +23,7 @@ impl Random {
         self.state.to_be_bytes()
     }
 
-    // Half of the calls are ticks and steps; a reset is rare, so that voices come to sound.
+    // Two calls in five are ticks or steps. A reset is rare, so that voices come to sound.
     pub fn call(&mut self) -> Call {
         let [sort, high, low, byte] = self.bytes();
         match sort {
