@@ -37,7 +37,7 @@ impl<'a, M: Store> Playback<'a, M> {
     }
 
     // Plays on, and writes the lines of the ticks to the buffer's front, until the player stops or the buffer has no room
-    // for a longest line.
+    // for a longest line. Once the player has stopped, each piece is empty and has the last line again.
     pub fn fill(&mut self, buffer: &mut [u8]) -> Piece
         ensures text { rest M.bytes M.takes self.old
             ≡ take result.length buffer.new ++ closed result.last (rest M.bytes M.takes self.new) }
