@@ -15,7 +15,7 @@ use Rattle.calls.specs.declared.Call.TheVariants.{Reset, Write, Read, Inspect, T
 use Rattle.session.specs.Station.{Model, tried}
 use Rattle.session.specs.Groups.{Divides, outside}
 use Rattle.session.specs.Stems.{Each, StemOf, MixAndStems}
-use Rattle.session.specs.Law.{SameVoices, Level, Agrees, granted, inspects, ticked, Together}
+use Rattle.session.specs.Law.{SameVoices, Level, Agrees, granted, inspected, ticked, Together}
 use Rattle.session.specs.declared.call.Answer.TheVariants as answered
 use Rattle.session.specs.declared.call.Call.{Call}
 use Rattle.session.specs.declared.call.Call.TheVariants.{Chip, Step}
@@ -75,21 +75,21 @@ still groups div call mix stems w =
 shown_same : (b c : List ℕ) (o : Result (List ℕ) Refusal) → granted (Some (answered.Chip (no_reply o))) ≡ true → kept b o ≡ kept c o
 shown_same b c o h = grind arith
 
-inspected : (mix : Model) (g : ℕ) (s : Model) (o : ℕ) → StemOf mix g s → inspect s.chip.memory.bytes s.chip.registers o (length s.buffer) ≡ inspect mix.chip.memory.bytes mix.chip.registers o (length mix.buffer)
-inspected mix g s o w =
+same_inspection : (mix : Model) (g : ℕ) (s : Model) (o : ℕ) → StemOf mix g s → inspect s.chip.memory.bytes s.chip.registers o (length s.buffer) ≡ inspect mix.chip.memory.bytes mix.chip.registers o (length mix.buffer)
+same_inspection mix g s o w =
     ap (λ (c : ChipState). inspect c.memory.bytes c.registers o (length s.buffer)) (chip_of mix g s w)
     ∙ ap (inspect mix.chip.memory.bytes mix.chip.registers o) w.buffer
 
-buffers_same : (mix : Model) (g : ℕ) (s : Model) (call : Call) → inspects call ≡ true → granted (tried call mix).answer ≡ true → StemOf mix g s → (tried call s).buffer ≡ (tried call mix).buffer
-buffers_same mix g s (Chip Reset) i h w = absurd (false≢true i)
-buffers_same mix g s (Chip (Write a b)) i h w = absurd (false≢true i)
-buffers_same mix g s (Chip (Read a)) i h w = absurd (false≢true i)
-buffers_same mix g s (Chip (Inspect o)) i h w =
-    ap (kept s.buffer) (inspected mix g s o w)
+buffers_same : (mix : Model) (g : ℕ) (s : Model) (call : Call) → inspected call (tried call mix).answer ≡ true → StemOf mix g s → (tried call s).buffer ≡ (tried call mix).buffer
+buffers_same mix g s (Chip Reset) h w = absurd (false≢true h)
+buffers_same mix g s (Chip (Write a b)) h w = absurd (false≢true h)
+buffers_same mix g s (Chip (Read a)) h w = absurd (false≢true h)
+buffers_same mix g s (Chip (Inspect o)) h w =
+    ap (kept s.buffer) (same_inspection mix g s o w)
     ∙ shown_same s.buffer mix.buffer (inspect mix.chip.memory.bytes mix.chip.registers o (length mix.buffer)) h
-buffers_same mix g s (Chip Tick) i h w = absurd (false≢true i)
-buffers_same mix g s (Chip Tell) i h w = absurd (false≢true i)
-buffers_same mix g s Step i h w = absurd (false≢true i)
+buffers_same mix g s (Chip Tick) h w = absurd (false≢true h)
+buffers_same mix g s (Chip Tell) h w = absurd (false≢true h)
+buffers_same mix g s Step h w = absurd (false≢true h)
 
 -- totals of one side
 module _ (side : SideName) (total : Frame → ℤ) (is : (s : Model) → total (frame_now s) ≡ sum (contributions side s.chip.registers.voices)) where
@@ -115,8 +115,8 @@ together groups div call mix stems w =
       level = level groups (tried call mix) (map (tried call) stems) after;
       answers = each_map (StemOf mix) (λ g s. Agrees g call s.answer (tried call mix).answer) (tried call) groups stems
           (λ g s x. answers_agree mix g s w.eight x call) w.each_stem;
-      shown = λ i h. each_all (λ g s. s.buffer ≡ (tried call mix).buffer) (λ s. s.buffer ≡ (tried call mix).buffer) groups (map (tried call) stems) (λ g s x. x)
-          (each_map (StemOf mix) (λ g s. s.buffer ≡ (tried call mix).buffer) (tried call) groups stems (λ g s x. buffers_same mix g s call i h x) w.each_stem);
+      shown = λ h. each_all (λ g s. s.buffer ≡ (tried call mix).buffer) (λ s. s.buffer ≡ (tried call mix).buffer) groups (map (tried call) stems) (λ g s x. x)
+          (each_map (StemOf mix) (λ g s. s.buffer ≡ (tried call mix).buffer) (tried call) groups stems (λ g s x. buffers_same mix g s call h x) w.each_stem);
       ticks = λ h.
           let each_ticked : Each (λ g s. ticked call s.answer ≡ true) groups (map (tried call) stems) =
           each_map (StemOf mix) (λ g s. ticked call s.answer ≡ true) (tried call) groups stems

@@ -33,6 +33,7 @@ SameVoices mix group s =
     (k : ℕ) → k < 8 → holds group k ≡ true →
     (stands (voice s k) ≡ stands (voice mix k)) × ((voice s k).latest ≡ (voice mix k).latest)
 
+-- a mix and its stems at one moment
 pub record Level (groups : List ℕ) (mix : Model) (stems : List Model) : Type 0 where
   pub voices : Each (SameVoices mix) groups stems
   pub memories : AllByRecursion (λ s. s.chip.memory.bytes ≡ mix.chip.memory.bytes) stems
@@ -51,26 +52,27 @@ pub data Agrees (group : ℕ) : Call → Option Answer → Option Answer → Typ
       ((k : ℕ) → k < 8 → holds group k ≡ true → slice_index_or xs k silence ≡ slice_index_or ys k silence) →
       Agrees group (Chip Tell) (Some (answered.Chip (Ok (Some (Contributions xs))))) (Some (answered.Chip (Ok (Some (Contributions ys)))))
 
--- whether a call was an accepted inspection
-abbrev pub chip_granted : ChipAnswer → Bool
-chip_granted (Ok None) = true
-chip_granted (Ok (Some (Byte b))) = false
-chip_granted (Ok (Some (Contributions xs))) = false
-chip_granted (Err e) = false
+-- whether a call was granted that has no reply of its own
+abbrev pub granted_plainly : ChipAnswer → Bool
+granted_plainly (Ok None) = true
+granted_plainly (Ok (Some (Byte b))) = false
+granted_plainly (Ok (Some (Contributions xs))) = false
+granted_plainly (Err e) = false
 
 abbrev pub granted : Option Answer → Bool
 granted None = false
-granted (Some (answered.Chip a)) = chip_granted a
+granted (Some (answered.Chip a)) = granted_plainly a
 granted (Some (answered.Step p)) = false
 
-abbrev pub inspects : Call → Bool
-inspects (Chip Reset) = false
-inspects (Chip (Write a b)) = false
-inspects (Chip (Read a)) = false
-inspects (Chip (Inspect o)) = true
-inspects (Chip Tick) = false
-inspects (Chip Tell) = false
-inspects Step = false
+-- whether a call was an accepted inspection
+abbrev pub inspected : Call → Option Answer → Bool
+inspected (Chip Reset) x = false
+inspected (Chip (Write a b)) x = false
+inspected (Chip (Read a)) x = false
+inspected (Chip (Inspect o)) x = granted x
+inspected (Chip Tick) x = false
+inspected (Chip Tell) x = false
+inspected Step x = false
 
 -- whether a call was a granted tick, be it a step's
 abbrev pub step_ticked : Option Answer → Bool
@@ -99,7 +101,7 @@ pub record AddUp (mix : Model) (stems : List Model) : Type 0 where
 pub record Together (groups : List ℕ) (call : Call) (mix : Model) (stems : List Model) : Type 0 where
   pub level : Level groups mix stems
   pub answers : Each (λ group s. Agrees group call s.answer mix.answer) groups stems
-  pub shown : inspects call ≡ true → granted mix.answer ≡ true → AllByRecursion (λ s. s.buffer ≡ mix.buffer) stems
+  pub shown : inspected call mix.answer ≡ true → AllByRecursion (λ s. s.buffer ≡ mix.buffer) stems
   pub ticks : ticked call mix.answer ≡ true → AllByRecursion (λ s. ticked call s.answer ≡ true) stems × AddUp mix stems
 
 -- Runs
