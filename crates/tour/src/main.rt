@@ -4,6 +4,7 @@
 mod chips;
 mod logs;
 mod memories;
+mod pitches;
 mod stems;
 mod tune;
 
@@ -13,6 +14,7 @@ fn main(rt: HostRuntime) -> io::Result<()> {
     memories::show_board(&rt)?;
     memories::show_comparison(&rt)?;
     chips::show_chip(&rt)?;
+    pitches::show_pitches(&rt)?;
     let mut buffer = [0; 128];
     let log = logs::record_tune(&rt, &mut buffer)?;
     logs::show_contents(&rt, log)?;
