@@ -1,0 +1,66 @@
+// Ticks of eight sounding voices over a RAM, for timing: prints the sum of all totals, by which programs are compared.
+#![tactic(auto)]
+
+use chip::chip::Chip;
+use chip::registers::Setup;
+use kind::Kind;
+use std::io;
+use voice::frame::{Converter, Frame};
+use wave::memory::{Source, Store};
+use wave::ram::Ram;
+
+const TICKS: u32 = 20_000_000;
+
+// Each voice has a level, a step and a start of its own; all loop to place 0.
+const REGISTERS: [[u8; 7]; 8] = [
+    [255, 0xFF, 0x00, 0x08, 0, 0, 0x00],
+    [200, 0x5A, 0x34, 0x07, 0, 0, 0x10],
+    [180, 0xA5, 0x01, 0x0A, 0, 0, 0x20],
+    [160, 0x3C, 0x80, 0x05, 0, 0, 0x30],
+    [140, 0xC3, 0x77, 0x09, 0, 0, 0x40],
+    [120, 0x69, 0x10, 0x0C, 0, 0, 0x50],
+    [100, 0x96, 0xF0, 0x03, 0, 0, 0x60],
+    [80, 0x1E, 0x0F, 0x10, 0, 0, 0x70],
+];
+
+fn set_up<M: Store>(chip: &mut Chip<M>) {
+    for (voice, registers) in (0x40u8..).zip(REGISTERS) {
+        let _ = chip.write(7, voice);
+        for (address, byte) in (0..).zip(registers) {
+            let _ = chip.write(address, byte);
+        }
+    }
+    let _ = chip.write(8, 0x00);
+    let _ = chip.write(7, 0x80);
+}
+
+fn sum_of_ticks<M: Source>(chip: &mut Chip<M>) -> i64 {
+    let mut frame = Frame::default();
+    let mut sum: i64 = 0;
+    for _ in 0..TICKS {
+        let _ = chip.tick(&mut frame);
+        sum = sum.wrapping_add(i64::from(frame.left.total) - 3 * i64::from(frame.right.total));
+    }
+    sum
+}
+
+fn main(rt: HostRuntime) -> io::Result<()> {
+    let mut bytes = vec![in rt.alloc(); 0u8; 65_536]?;
+    for (byte, place) in bytes.iter_mut().zip(0u32..) {
+        let value = (place.wrapping_mul(2_654_435_761) >> 24) as u8;
+        // a stop byte every 4,096 places and no other
+        *byte = if place % 4_096 == 4_095 {
+            0xFF
+        } else {
+            value & 0xFE
+        };
+    }
+    let setup = Setup {
+        kind: Kind::Rf5c68a,
+        converter: Converter::Bits16,
+        mutes: 0,
+    };
+    let mut chip = Chip::new(Ram::new(bytes.as_mut_slice()), setup);
+    set_up(&mut chip);
+    println!(rt; "{}", sum_of_ticks(&mut chip))
+}
