@@ -1,4 +1,4 @@
-/* The ticks of crates/tick_bench by a plain loop that fills the same frame, for comparison. Prints the same sum. */
+/* The ticks of crates/timing by a plain loop that fills the same frame, for comparison. Prints the same sum. */
 #include <inttypes.h>
 #include <stdint.h>
 #include <stdio.h>

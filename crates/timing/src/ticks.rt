@@ -1,6 +1,4 @@
-// Ticks of eight sounding voices over a RAM, for timing: prints the sum of all totals, by which programs are compared.
-#![tactic(auto)]
-
+// Ticks over a RAM.
 use chip::chip::Chip;
 use chip::registers::Setup;
 use kind::Kind;
@@ -8,8 +6,6 @@ use std::io;
 use voice::frame::{Converter, Frame};
 use wave::memory::{Source, Store};
 use wave::ram::Ram;
-
-const TICKS: u32 = 20_000_000;
 
 // Each voice has a level, a step and a start of its own; all loop to place 0.
 const REGISTERS: [[u8; 7]; 8] = [
@@ -23,28 +19,36 @@ const REGISTERS: [[u8; 7]; 8] = [
     [80, 0x1E, 0x0F, 0x10, 0, 0, 0x70],
 ];
 
-fn set_up<M: Store>(chip: &mut Chip<M>) {
+const SETUP: Setup = Setup {
+    kind: Kind::Rf5c68a,
+    converter: Converter::Bits16,
+    mutes: 0,
+};
+
+// The first voices sound, so many of them.
+fn set_up<M: Store>(chip: &mut Chip<M>, voices: u32) {
     for (voice, registers) in (0x40u8..).zip(REGISTERS) {
         let _ = chip.write(7, voice);
         for (address, byte) in (0..).zip(registers) {
             let _ = chip.write(address, byte);
         }
     }
-    let _ = chip.write(8, 0x00);
+    let _ = chip.write(8, 0xFFu8.checked_shl(voices).unwrap_or(0));
     let _ = chip.write(7, 0x80);
 }
 
-fn sum_of_ticks<M: Source>(chip: &mut Chip<M>) -> i64 {
+// The left totals less three times the right ones, by which programs are compared.
+fn sum_of_ticks<M: Source>(chip: &mut Chip<M>, count: u32) -> i64 {
     let mut frame = Frame::default();
     let mut sum: i64 = 0;
-    for _ in 0..TICKS {
+    for _ in 0..count {
         let _ = chip.tick(&mut frame);
         sum = sum.wrapping_add(i64::from(frame.left.total) - 3 * i64::from(frame.right.total));
     }
     sum
 }
 
-fn main(rt: HostRuntime) -> io::Result<()> {
+pub fn run(rt: &HostRuntime, voices: u32, count: u32) -> io::Result<()> {
     let mut bytes = vec![in rt.alloc(); 0u8; 65_536]?;
     for (byte, place) in bytes.iter_mut().zip(0u32..) {
         let value = (place.wrapping_mul(2_654_435_761) >> 24) as u8;
@@ -55,12 +59,7 @@ fn main(rt: HostRuntime) -> io::Result<()> {
             value & 0xFE
         };
     }
-    let setup = Setup {
-        kind: Kind::Rf5c68a,
-        converter: Converter::Bits16,
-        mutes: 0,
-    };
-    let mut chip = Chip::new(Ram::new(bytes.as_mut_slice()), setup);
-    set_up(&mut chip);
-    println!(rt; "{}", sum_of_ticks(&mut chip))
+    let mut chip = Chip::new(Ram::new(bytes.as_mut_slice()), SETUP);
+    set_up(&mut chip, voices);
+    println!(rt; "{}", sum_of_ticks(&mut chip, count))
 }
