@@ -1,0 +1,69 @@
+//! Compares the text of a program `stem` with this package's, for inputs that are drawn from a seed.
+
+use std::collections::BTreeMap;
+use std::env;
+use std::io::{self, Read, Write};
+use std::process::{Command, ExitCode, Stdio};
+use std::thread;
+
+use second::generate::{stem_input, Dice};
+use second::stem;
+
+/// The longest wait of the drawn logs.
+const LONGEST_WAIT: u16 = 200;
+
+fn printed(program: &str, input: &[u8]) -> io::Result<Vec<u8>> {
+    let mut child = Command::new(program)
+        .stdin(Stdio::piped())
+        .stdout(Stdio::piped())
+        .spawn()?;
+    let mut stdin = child.stdin.take().expect("a pipe");
+    let input = input.to_vec();
+    let writer = thread::spawn(move || stdin.write_all(&input));
+    let mut text = Vec::new();
+    child
+        .stdout
+        .take()
+        .expect("a pipe")
+        .read_to_end(&mut text)?;
+    // a program may end before it has read all
+    let _ = writer.join();
+    child.wait()?;
+    Ok(text)
+}
+
+/// How a text ends: `end`, or `fault` with its number.
+fn ending(text: &str) -> String {
+    let last = text.lines().last().unwrap_or("");
+    last.split(' ').take(2).collect::<Vec<_>>().join(" ")
+}
+
+fn main() -> io::Result<ExitCode> {
+    let mut arguments = env::args().skip(1);
+    let (Some(program), Some(seed), Some(count)) = (
+        arguments.next(),
+        arguments.next().and_then(|word| word.parse().ok()),
+        arguments.next().and_then(|word| word.parse::<u32>().ok()),
+    ) else {
+        eprintln!("usage: compare_stem PROGRAM SEED COUNT");
+        return Ok(ExitCode::from(2));
+    };
+    let mut dice = Dice::new(seed);
+    let mut endings = BTreeMap::new();
+    let mut lines = 0;
+    for case in 0..count {
+        let input = stem_input(&mut dice, LONGEST_WAIT);
+        let expected = stem::text(&input);
+        let text = printed(&program, &input)?;
+        if text != expected.as_bytes() {
+            println!("input {case} of seed {seed}: {input:02X?}");
+            println!("expected {expected:?}");
+            println!("printed {:?}", String::from_utf8_lossy(&text));
+            return Ok(ExitCode::FAILURE);
+        }
+        lines += expected.lines().count();
+        *endings.entry(ending(&expected)).or_insert(0u32) += 1;
+    }
+    println!("{count} inputs and {lines} lines were the same; they ended so: {endings:?}");
+    Ok(ExitCode::SUCCESS)
+}
