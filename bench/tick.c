@@ -64,7 +64,9 @@ static void tick(struct voice *voices, uint8_t channel, const uint8_t *bytes, st
     finish(&frame->right);
 }
 
-int main(void) {
+/* No argument switches all voices on; the compiler is not told that there is none. */
+int main(int arguments, char **names) {
+    uint8_t channel = arguments > 1 ? (uint8_t)names[1][0] : 0;
     uint8_t *bytes = malloc(PLACES);
     if (!bytes) return 1;
     for (uint32_t place = 0; place < PLACES; place++) {
@@ -79,7 +81,7 @@ int main(void) {
     static struct frame frame;
     int64_t sum = 0;
     for (int i = 0; i < TICKS; i++) {
-        tick(voices, 0, bytes, &frame);
+        tick(voices, channel, bytes, &frame);
         sum += (int64_t)frame.left.total - 3 * (int64_t)frame.right.total;
     }
     printf("%" PRId64 "\n", sum);
