@@ -7,6 +7,7 @@ pub mod clip;
 pub mod generate;
 pub mod log;
 pub mod memory;
+pub mod notes;
 pub mod pitch;
 pub mod player;
 pub mod refusal;
