@@ -47,6 +47,7 @@ pub fn perform<M: Store>(
     ensures after { state M.bytes M.takes chip.new ≡ after call (state M.bytes M.takes chip.old) }
     ensures frame { frame.new ≡ framed call (state M.bytes M.takes chip.old) frame.old }
     ensures buffer { buffer.new ≡ buffered call (state M.bytes M.takes chip.old) buffer.old }
+    ensures same_borrows { M.borrows chip.new.memory ≡ M.borrows chip.old.memory }
 {
     match call {
         Call::Reset => {

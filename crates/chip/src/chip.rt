@@ -35,6 +35,31 @@ impl<M> Chip<M> {
         }
     }
 
+    // A chip whose registers are as they were when another's were asked for.
+    pub fn resume(memory: M, registers: Registers) -> Chip<M>
+        ensures registers { result.registers ≡ registers }
+        ensures memory { result.memory ≡ memory }
+    {
+        Chip { registers, memory }
+    }
+
+    pub fn into_memory(self) -> M
+        ensures { result ≡ self.memory }
+    {
+        let Chip {
+            registers: _,
+            memory,
+        } = self;
+        memory
+    }
+
+    // All that the chip holds beside its memory.
+    pub fn registers(&self) -> Registers
+        ensures { result ≡ self.now.registers }
+    {
+        self.registers
+    }
+
     pub fn kind(&self) -> Kind
         ensures { result ≡ self.now.registers.setup.kind }
     {
@@ -133,6 +158,7 @@ impl<M: Store> Chip<M> {
         ensures answer { result ≡ granted (write (state M.bytes M.takes self.old) address byte) }
         ensures after { state M.bytes M.takes self.new
             ≡ kept (state M.bytes M.takes self.old) (write (state M.bytes M.takes self.old) address byte) }
+        ensures same_borrows { M.borrows self.new.memory ≡ M.borrows self.old.memory }
     {
         match self.target(address)? {
             Target::Register(register) => self.registers.write(register, byte),

@@ -61,6 +61,30 @@ impl<'a> Player<'a> {
         }
     }
 
+    // A player that goes on from where another stood in the log, in bits, and from its state.
+    pub fn resume(log: &'a [u8], place: usize, state: State) -> Player<'a>
+        ensures log { result.reader.log.now ≡ log.now }
+        ensures stand { stand result ≡ record { place = place; state = state } }
+    {
+        Player {
+            reader: Reader { log, place },
+            state,
+        }
+    }
+
+    // Where the player stands in its log, in bits.
+    pub fn place(&self) -> usize
+        ensures { result ≡ (stand self.now).place }
+    {
+        self.reader.place
+    }
+
+    pub fn state(&self) -> State
+        ensures { result ≡ (stand self.now).state }
+    {
+        self.state
+    }
+
     // One step: the header, a record or a tick, which fills the frame. After a fault or the end it answers the same again.
     pub fn step<M: Store>(
         &mut self,
@@ -73,6 +97,7 @@ impl<'a> Player<'a> {
             ≡ framed frame.old
             (step self.old.reader.log.now (state M.bytes M.takes chip.old) (stand self.old)) result }
         ensures log { self.new.reader.log.now ≡ self.old.reader.log.now }
+        ensures same_borrows { M.borrows chip.new.memory ≡ M.borrows chip.old.memory }
         ensures nearer { stops result ≡ false →
             left self.old.reader.log.now (stand self.new) < left self.old.reader.log.now (stand self.old) }
     {
@@ -95,6 +120,7 @@ impl<'a> Player<'a> {
             ≡ framed frame.old
             (step self.old.reader.log.now (state M.bytes M.takes chip.old) (stand self.old)) result }
         ensures log { self.new.reader.log.now ≡ self.old.reader.log.now }
+        ensures same_borrows { M.borrows chip.new.memory ≡ M.borrows chip.old.memory }
     {
         let bit = self.reader.place;
         let record = match self.state {
@@ -141,6 +167,7 @@ impl<'a> Player<'a> {
             ≡ obeyed (state M.bytes M.takes chip.old) bit self.old.reader.place (values «record».entry) }
         ensures quiet { (before : FrameValue) (s : Stepped) → framed before s result ≡ before }
         ensures log { self.new.reader.log.now ≡ self.old.reader.log.now }
+        ensures same_borrows { M.borrows chip.new.memory ≡ M.borrows chip.old.memory }
     {
         match record {
             Record::Register { address, byte } => put(chip, bit, u16::from(address), &[byte])?,
@@ -164,6 +191,7 @@ impl<'a> Player<'a> {
             (tick (M.bytes chip.old.memory) chip.old.registers) }
         ensures frame { frame.new ≡ filled frame.old (tick (M.bytes chip.old.memory) chip.old.registers) }
         ensures log { self.new.reader.log.now ≡ self.old.reader.log.now }
+        ensures same_borrows { M.borrows chip.new.memory ≡ M.borrows chip.old.memory }
     {
         chip.tick(frame).map_err(|refusal| Fault::Chip {
             refusal,
@@ -197,9 +225,10 @@ fn check_header(log: &[u8], kind: Kind) -> Result<(), LogFault>
 #[tactic(auto, unfolding(crate::specs::Step::put))]
 fn put<M: Store>(chip: &mut Chip<M>, bit: usize, first: u16, bytes: &[u8]) -> Result<(), Fault>
     requires { first + length bytes.now ≤ 65535 }
-    ensures { (place : ℕ) →
+    ensures put { (place : ℕ) →
         put bytes.now first bit place (state M.bytes M.takes chip.old)
         ≡ put_down result place (state M.bytes M.takes chip.new) }
+    ensures same_borrows { M.borrows chip.new.memory ≡ M.borrows chip.old.memory }
 {
     for (byte, address) in bytes.iter().zip(first..) {
         chip.write(address, *byte).map_err(|refusal| Fault::Chip {

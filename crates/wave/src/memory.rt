@@ -41,10 +41,14 @@ pub trait Store: Source {
     // the places that take writes; what it says of places at or past the size does not count
     ghost takes: { Self → ℕ → Bool };
 
+    // the names of the borrows that it holds: what a write leaves in them reaches their lenders
+    ghost borrows: { Self → List ℕ };
+
     fn write(&mut self, place: usize, byte: u8) -> Result<(), Refusal>
         ensures answer { result ≡ granted (store (meaning (Self.bytes self.old) (takes self.old)) place byte) }
         ensures after { meaning (Self.bytes self.new) (takes self.new)
-            ≡ written (meaning (Self.bytes self.old) (takes self.old)) place byte };
+            ≡ written (meaning (Self.bytes self.old) (takes self.old)) place byte }
+        ensures same_borrows { borrows self.new ≡ borrows self.old };
 }
 
 // The byte at a place, 0 past the end.

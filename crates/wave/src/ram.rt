@@ -1,5 +1,5 @@
 // RAM over lent bytes: every place takes writes.
-ghost use Rattle.std.specs.Prelude.{◌≡◌, true};
+ghost use Rattle.std.specs.Prelude.{◌≡◌, true, [], ◌∷◌};
 ghost use Rattle.outcome.specs.Outcome.{granted};
 ghost use Rattle.wave.specs.Memory.{store, written};
 ghost use Rattle.wave.specs.Lent.{beyond, ram};
@@ -15,17 +15,26 @@ impl<'a> Lent<&'a mut [u8]> {
     {
         Lent { lent }
     }
+
+    // The lent bytes again.
+    pub fn into_lent(self) -> &'a mut [u8]
+        ensures { (result.now ≡ self.entry.lent.now) × (result.ghost_name ≡ self.entry.lent.ghost_name) }
+    {
+        self.lent
+    }
 }
 
 impl Store for Lent<&mut [u8]> {
     ghost takes = { λ _ _. true };
+
+    ghost borrows = { λ s. s.lent.ghost_name ∷ [] };
 
     #[tactic(auto, using(crate::proofs::Limits::used_length, crate::proofs::Limits::ram_written, crate::proofs::Limits::beyond_set, crate::proofs::Writes::store_past))]
     fn write(&mut self, place: usize, byte: u8) -> Result<(), Refusal>
         ensures answer { result ≡ granted (store (ram self.old.lent.now) place byte) }
         ensures after { ram self.new.lent.now ≡ written (ram self.old.lent.now) place byte }
         ensures beyond { beyond self.new.lent.now ≡ beyond self.old.lent.now }
-        ensures lender { self.new.lent.ghost_name ≡ self.old.lent.ghost_name }
+        ensures same_borrows { self.new.lent.ghost_name ∷ [] ≡ self.old.lent.ghost_name ∷ [] }
     {
         if place < self.size() {
             self.lent[place] = byte;

@@ -1,5 +1,5 @@
 // Mask ROM over bytes held for reading: no place takes writes.
-ghost use Rattle.std.specs.Prelude.{◌≡◌, false};
+ghost use Rattle.std.specs.Prelude.{◌≡◌, false, []};
 ghost use Rattle.outcome.specs.Outcome.{granted};
 ghost use Rattle.wave.specs.Memory.{store, written};
 ghost use Rattle.wave.specs.Lent.{rom};
@@ -19,6 +19,8 @@ impl<'a> Lent<&'a [u8]> {
 
 impl Store for Lent<&[u8]> {
     ghost takes = { λ _ _. false };
+
+    ghost borrows = { λ _. [] };
 
     #[tactic(auto, using(crate::proofs::Limits::rom_refused, crate::proofs::Writes::store_past))]
     fn write(&mut self, place: usize, byte: u8) -> Result<(), Refusal>

@@ -10,3 +10,4 @@ invariant-loop-byte g l =
     × ((place : ℕ) →
     put l.byte-iterator.a.rest.now l.byte-iterator.b.start l.bit place (state g.M.Source.bytes g.M.Store.takes l.chip)
     ≡ put l.fn.bytes l.fn.first l.bit place (state g.M.Source.bytes g.M.Store.takes l.fn.chip))
+    × (g.M.Store.borrows l.chip.memory ≡ g.M.Store.borrows l.fn.chip.memory)

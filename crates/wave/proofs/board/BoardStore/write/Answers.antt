@@ -1,4 +1,4 @@
-use Rattle.std.proofs.Common.{◌-◌, ◌<◌, ◌≤◌, sym, ap, ◌∙◌, arith}
+use Rattle.std.proofs.Common.{◌-◌, ◌<◌, ◌≤◌, refl, sym, ap, ◌∙◌, arith}
 use Rattle.outcome.specs.Outcome.{granted}
 use Rattle.wave.specs.Memory.{Memory, most, size, store, written}
 use Rattle.wave.specs.Means.{means}
@@ -18,6 +18,8 @@ returns-then-place-size g c =
       after = ap (λ x. board x n) c.write.ensures.after ∙ sym (written_first m n c.args.place c.args.byte short here);
       first = c.write.ensures.after;
       second = sym (second_left m n c.args.place c.args.byte short here);
+      first_borrows = c.write.ensures.same_borrows;
+      second_borrows = refl;
     }
 
 pub returns-then-place-lt-MOST : goal.returns-then-place-lt-MOST
@@ -36,6 +38,8 @@ returns-then-place-lt-MOST g c =
       after = ap (board m) after ∙ sym (written_second m n c.args.place c.args.byte there near);
       first = sym (written_past m c.args.place c.args.byte there);
       second = after ∙ sym (second_reached m n c.args.place c.args.byte there near);
+      first_borrows = refl;
+      second_borrows = c.write-then-place-lt-MOST.ensures.same_borrows;
     }
 
 pub returns-else-place-lt-MOST : goal.returns-else-place-lt-MOST
@@ -49,4 +53,6 @@ returns-else-place-lt-MOST g c =
       after = sym (written_past (board m n) c.args.place c.args.byte (board_past m n c.args.place c.args.byte far));
       first = sym (written_past m c.args.place c.args.byte there);
       second = sym (second_far m n c.args.place c.args.byte far);
+      first_borrows = refl;
+      second_borrows = refl;
     }

@@ -1,0 +1,37 @@
+-- The RAM at the front of a board.
+use Rattle.std.proofs.Common.{◌≡◌, ℕ, List, ◌++◌, length, take, sym, ap, ap₂, ◌∙◌}
+use Rattle.std.proofs.lemmas.List.{take-take}
+use Rattle.std.proofs.Math.Seq.{take-append_seam}
+use Rattle.wave.specs.Memory.{most}
+use Rattle.wave.specs.Lent.{used, used_within, ram, rom}
+use Rattle.wave.specs.Board.{joined, board}
+use Rattle.wave.specs.Memory.{Memory}
+use Rattle.chip.specs.Port.{State}
+use Rattle.chip.specs.declared.registers.Registers.{Registers}
+use Rattle.player.specs.Step.{Stand}
+use Rattle.exported.specs.Plays.{begun, playing}
+use Rattle.exported.specs.declared.frames.Totals.{Totals}
+use Rattle.exported.specs.declared.frames.Words.{Words}
+
+abbrev pub state : Registers → Memory → State
+state r m = record { registers = r; memory = m }
+
+pub front : (lent second : List ℕ) → used lent ≡ take (length (used lent)) (joined (used lent) second)
+unfolding joined used
+front lent second =
+    let a : List ℕ = take most lent in
+    sym (take-take (length a) most (a ++ second) (used_within lent) ∙ take-append_seam a second)
+
+-- a chip over what its memory was made of
+pub resumed :
+    (r s : Registers) (a b c d : List ℕ) → r ≡ s → a ≡ c → b ≡ d →
+    state r (board (ram a) (rom b)) ≡ state s (board (ram c) (rom d))
+resumed r s a b c d e f g = ap₂ (λ x m. state x m) e (ap₂ (λ x y. board (ram x) (rom y)) f g)
+
+-- playing that starts alike
+pub same_start :
+    (log other : List ℕ) (c d : State) (p q : Stand) (totals : List Totals) (words : List Words) → log ≡ other → c ≡ d → p ≡ q →
+    playing log (begun c p totals words) ≡ playing other (begun d q totals words)
+same_start log other c d p q totals words e f g =
+    ap (λ l. playing l (begun c p totals words)) e
+    ∙ ap₂ (λ x y. playing other (begun x y totals words)) f g

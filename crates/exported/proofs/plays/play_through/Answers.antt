@@ -1,0 +1,25 @@
+use Rattle.std.proofs.Common.{◌∙◌, ap, length, take}
+use Rattle.wave.specs.Lent.{used}
+use Rattle.player.specs.Step.{Stand}
+use Rattle.player.specs.declared.player.State.{State}
+use Rattle.exported.specs.Plays.{step_answer}
+use Rattle.exported.proofs.Boards.{front, resumed, same_start}
+use Rattle.exported.proofs.plays.play_through.Goals as goal
+
+pub returns-clause-played : goal.returns-clause-played
+returns-clause-played c =
+    let chip = resumed _ _ _ _ _ _ c.resume-sounding.ensures.registers c.resume-sounding.ensures.ram.0 c.resume-sounding.ensures.rom in
+    let at : State → Stand = λ s. record { place = c.args.player.now.place; state = s } in
+    let player = c.resume-reading.ensures.stand ∙ ap at c.state.ensures in
+    let out = c.play_on-ticks.ensures.played ∙ same_start _ _ _ _ _ _ c.args.totals.now c.args.words.now c.resume-reading.ensures.log chip player in
+    (ap (λ o. o.stage.ticks) out, c.step_answer.ensures ∙ ap (λ o. step_answer o.last) out)
+
+pub returns-clause-ram : goal.returns-clause-ram
+returns-clause-ram c =
+    let chip = resumed _ _ _ _ _ _ c.resume-sounding.ensures.registers c.resume-sounding.ensures.ram.0 c.resume-sounding.ensures.rom in
+    let at : State → Stand = λ s. record { place = c.args.player.now.place; state = s } in
+    let player = c.resume-reading.ensures.stand ∙ ap at c.state.ensures in
+    let out = c.play_on-ticks.ensures.played ∙ same_start _ _ _ _ _ _ c.args.totals.now c.args.words.now c.resume-reading.ensures.log chip player in
+    let lent = c.play_on-ticks.new.chip.memory.first.lent.now in
+    rw (c.into_lent.ensures.0, c.into_memory.ensures)
+    (front lent _ ∙ ap (λ o. take (length (used lent)) o.stage.chip.memory.bytes) out)

@@ -1,0 +1,6 @@
+pub mod Frames
+pub mod Logs
+pub mod Plays
+pub mod Ports
+pub mod States
+pub mod Tones
