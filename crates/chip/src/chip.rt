@@ -146,8 +146,12 @@ impl<M: Source> Chip<M> {
         ensures ranged { result ≡ Ok tt → Ranged frame.new }
     {
         self.check_size()?;
-        self.registers.tick(&self.memory);
-        *frame = Frame::new(&self.registers.voices, self.registers.setup.converter);
+        let totals = self.registers.tick(&self.memory);
+        *frame = Frame::of_totals(
+            &self.registers.voices,
+            totals,
+            self.registers.setup.converter,
+        );
         Ok(())
     }
 }

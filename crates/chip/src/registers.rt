@@ -1,12 +1,13 @@
 // All that a chip holds beside its memory.
 ghost use Rattle.std.specs.Prelude.{◌≡◌, slice_index_or};
 ghost use Rattle.voice.specs.Voice.{fresh};
-ghost use Rattle.voice.specs.Frame.{AllBounded};
+ghost use Rattle.voice.specs.Frame.{sums, AllBounded};
 ghost use Rattle.chip.specs.Registers.{made, with_byte, edited, chosen, registered, position_byte, sounds, ticked, latest};
 
 use crate::control::{Control, bit};
 use kind::Kind;
 use voice::frame::Converter;
+use voice::stereo::Stereo;
 use voice::voice::{Contribution, Settings, Voice};
 use wave::memory::Source;
 
@@ -62,15 +63,21 @@ impl Registers {
         if index % 2 == 0 { low } else { high }
     }
 
-    // One tick over a memory.
+    // One tick over a memory. Answers the sums of what the voices contribute, which are counted here and not read back.
     #[tactic(auto, using(crate::proofs::Each::each_from))]
-    pub fn tick<S: Source>(&mut self, memory: &S)
+    pub fn tick<S: Source>(&mut self, memory: &S) -> Stereo<i32>
         ensures exact { self.new ≡ ticked (S.bytes memory.now) self.old }
+        ensures totals { result ≡ sums self.new.voices }
         ensures bounded { AllBounded self.new.voices }
     {
+        let mut left = 0;
+        let mut right = 0;
         for (k, voice) in self.voices.iter_mut().enumerate() {
             voice.tick(memory, sounds(self.control.on, self.channel, k));
+            left += i32::from(voice.latest.left);
+            right += i32::from(voice.latest.right);
         }
+        Stereo { left, right }
     }
 
     // What each voice contributed in the last tick.

@@ -1,12 +1,12 @@
 -- Contributions one by one, and their sum.
-use Rattle.std.proofs.Common.{◌≡◌, ℕ, zero, suc, ◌+◌, ◌*◌, ◌<◌, List, [], ◌∷◌, length, get_or, take, ℤ, pos, ◌+ℤ◌, neg_ℤ, ◌≤ℤ◌, sym, ap, ◌∙◌, add-one, arith}
+use Rattle.std.proofs.Common.{◌≡◌, ℕ, zero, suc, ◌+◌, ◌*◌, ◌<◌, ◌≤◌, List, [], ◌∷◌, length, get_or, set, take, ℤ, pos, ◌+ℤ◌, neg_ℤ, ◌≤ℤ◌, sym, ap, ◌∙◌, add-one, arith}
 use lib.IntN.{+ℤ_comm, +ℤ_assoc}
 use Rattle.std.proofs.ByRecursion.{All-map, All-weaker}
 use Rattle.std.proofs.lemmas.Int.{ints}
-use Rattle.std.proofs.lemmas.List.{length-map}
+use Rattle.std.proofs.lemmas.List.{length-map, take_all}
 use Rattle.voice.specs.Voice.{Contribution, loudest, Within, Bounded}
 use Rattle.voice.specs.Stereo.{of_side}
-use Rattle.voice.specs.Frame.{contributions, sum, side, TotalWithin, AllWithin, RangedSide, AllBounded}
+use Rattle.voice.specs.Frame.{contributions, sum, side, frame, TotalWithin, AllWithin, RangedSide, Ranged, AllBounded}
 use Rattle.voice.specs.declared.frame.Converter.{Converter}
 use Rattle.voice.specs.declared.stereo.SideName.{SideName}
 use Rattle.voice.specs.declared.stereo.SideName.TheVariants.{Left, Right}
@@ -46,7 +46,43 @@ sum_within xs l h =
     let most = sum_range xs h in
     (omega (arith, ints), omega (arith, ints))
 
-pub side_ranged : (k : Converter) (name : SideName) (voices : List Voice) → length voices ≡ 8 → AllBounded voices → RangedSide (side k (contributions name voices))
+side_ranged :
+    (k : Converter) (name : SideName) (voices : List Voice) → length voices ≡ 8 → AllBounded voices →
+    RangedSide (side k (contributions name voices) (sum (contributions name voices)))
 side_ranged k name voices l h =
     let within = contributions_within name voices h in
     (within, sum_within (contributions name voices) (omega (arith, length-map voices (λ (v : Voice). of_side name v.latest))) within)
+
+pub frame_ranged : (k : Converter) (voices : List Voice) → length voices ≡ 8 → AllBounded voices → Ranged (frame k voices)
+frame_ranged k voices l h = (side_ranged k Left voices l h, side_ranged k Right voices l h)
+
+-- Totals that grow by a voice at a time
+
+-- the sum of the first voices, in the range of so many
+abbrev pub Counted : SideName → ℕ → List Voice → ℤ → Type 0
+Counted name k voices t =
+    (t ≡ sum (contributions name (take k voices))) × (neg_ℤ (pos (loudest * k)) ≤ℤ t) × (t ≤ℤ pos (loudest * k))
+
+sum_put :
+    (name : SideName) (voices : List Voice) (k : ℕ) (v : Voice) → k < length voices →
+    sum (contributions name (take (suc k) (set voices k v))) ≡ sum (contributions name (take k voices)) +ℤ of_side name v.latest
+sum_put name [] k v h = absurd (omega arith)
+sum_put name (x ∷ xs) zero v h = +ℤ_comm (of_side name v.latest) (pos 0)
+sum_put name (x ∷ xs) (suc k) v h =
+    ap (λ s. of_side name x.latest +ℤ s) (sum_put name xs k v (omega arith))
+    ∙ sym (+ℤ_assoc (of_side name x.latest) (sum (contributions name (take k xs))) (of_side name v.latest))
+
+-- one voice more
+pub count_more :
+    (name : SideName) (voices : List Voice) (k : ℕ) (v : Voice) (t u : ℤ) → k < length voices → Bounded v.latest →
+    Counted name k voices t → u ≡ t +ℤ of_side name v.latest → Counted name (k + 1) (set voices k v) u
+count_more name voices k v t u h b c e =
+    let within = side_within name v.latest b in (
+      rw add-one (e ∙ ap (λ s. s +ℤ of_side name v.latest) c.0 ∙ sym (sum_put name voices k v h)),
+      omega (arith, ints),
+      omega (arith, ints),
+    )
+
+-- all of them
+pub count_all : (name : SideName) (voices : List Voice) (k : ℕ) (t : ℤ) → length voices ≤ k → Counted name k voices t → t ≡ sum (contributions name voices)
+count_all name voices k t h c = c.0 ∙ ap (λ (vs : List Voice). sum (contributions name vs)) (take_all k voices h)

@@ -47,15 +47,24 @@ word Bits16 v = twos v
 word Bits10 v = height v / 64
 word Bits8 v = height v / 256
 
--- one side of a frame: limited once, after the sum
-abbrev pub side : Converter → List ℤ → Side
-side k xs = record { contributions = xs; total = sum xs; word = word k (limited (sum xs)) }
+-- one side of a frame: its total is limited once
+abbrev pub side : Converter → List ℤ → ℤ → Side
+side k xs total = record { contributions = xs; total = total; word = word k (limited total) }
 
 abbrev pub Frame : Type 0
 Frame = Stereo Side
 
+-- the frame of voices' contributions for totals that are known
+abbrev pub frame_of : Converter → List Voice → Stereo ℤ → Frame
+frame_of k voices totals =
+    record { left = side k (contributions Left voices) totals.left; right = side k (contributions Right voices) totals.right }
+
+-- the sums of what voices contribute
+abbrev pub sums : List Voice → Stereo ℤ
+sums voices = record { left = sum (contributions Left voices); right = sum (contributions Right voices) }
+
 abbrev pub frame : Converter → List Voice → Frame
-frame k voices = record { left = side k (contributions Left voices); right = side k (contributions Right voices) }
+frame k voices = frame_of k voices (sums voices)
 
 -- the totals of a frame, before the limiter
 abbrev pub totals : Frame → Stereo ℤ

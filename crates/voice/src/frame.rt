@@ -1,6 +1,6 @@
 // The frame of a tick: what eight voices contribute to each side, their total, and its word.
 ghost use Rattle.std.specs.Prelude.{◌≡◌, pos, negsuc, ◌+ℤ◌, ◌≤ℤ◌};
-ghost use Rattle.voice.specs.Frame.{contributions, sum, limited, height, word, side, frame, totals};
+ghost use Rattle.voice.specs.Frame.{contributions, sum, limited, height, word, side, frame_of, sums, frame, totals};
 ghost use Rattle.voice.specs.Frame.{Ranged, AllBounded};
 
 use crate::stereo::{SideName, Stereo};
@@ -38,9 +38,29 @@ impl Stereo<Side> {
         ensures exact { result ≡ frame converter voices.now }
         ensures ranged { AllBounded voices.now → Ranged result }
     {
+        let totals = Stereo {
+            left: sum(&contributions(voices, SideName::Left)),
+            right: sum(&contributions(voices, SideName::Right)),
+        };
+        Frame::of_totals(voices, totals, converter)
+    }
+
+    // The frame of the latest contributions for totals that are known, so that they are not summed again.
+    pub fn of_totals(voices: &[Voice; 8], totals: Stereo<i32>, converter: Converter) -> Frame
+        ensures exact { result ≡ frame_of converter voices.now totals }
+        ensures ranged { AllBounded voices.now → totals ≡ sums voices.now → Ranged result }
+    {
         Frame {
-            left: new_side(voices, SideName::Left, converter),
-            right: new_side(voices, SideName::Right, converter),
+            left: new_side(
+                contributions(voices, SideName::Left),
+                totals.left,
+                converter,
+            ),
+            right: new_side(
+                contributions(voices, SideName::Right),
+                totals.right,
+                converter,
+            ),
         }
     }
 
@@ -55,11 +75,9 @@ impl Stereo<Side> {
     }
 }
 
-fn new_side(voices: &[Voice; 8], name: SideName, converter: Converter) -> Side
-    ensures { result ≡ side converter (contributions name voices.now) }
+fn new_side(contributions: [i16; 8], total: i32, converter: Converter) -> Side
+    ensures { result ≡ side converter contributions total }
 {
-    let contributions = contributions(voices, name);
-    let total = sum(&contributions);
     Side {
         contributions,
         total,
@@ -79,17 +97,9 @@ fn sum(list: &[i16; 8]) -> i32
 {
     let mut total = 0;
     for contribution in list {
-        total = added(total, *contribution);
+        total += i32::from(*contribution);
     }
     total
-}
-
-// The total with one contribution more. Eight of them cannot leave the range that is asked.
-fn added(total: i32, contribution: i16) -> i32
-    requires { (negsuc 262143 ≤ℤ total) × (total ≤ℤ pos 262144) }
-    ensures { result ≡ total +ℤ contribution }
-{
-    total + i32::from(contribution)
 }
 
 // The limiter, which a total passes once.

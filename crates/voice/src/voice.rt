@@ -157,9 +157,9 @@ fn level(byte: u8, env: u8, share: u8) -> i16
     ensures exact { result ≡ level byte env share }
     ensures within { Within result }
 {
-    let product = product(byte, env, share);
-    let size = (product / 32) as i16;
-    if byte < 128 { -size } else { size }
+    let size = (product(byte, env, share) / 32) as i32;
+    let level = if byte < 128 { -size } else { size };
+    level as i16
 }
 
 #[tactic(auto, using(crate::proofs::Levels::size_most))]
@@ -168,7 +168,7 @@ fn product(byte: u8, env: u8, share: u8) -> u32
     ensures exact { result ≡ product byte env share }
     ensures bound { size byte env share ≤ loudest }
 {
-    u32::from(byte % 128) * u32::from(env) * u32::from(share)
+    u32::from(byte) % 128 * u32::from(env) * u32::from(share)
 }
 
 #[cfg(test)]

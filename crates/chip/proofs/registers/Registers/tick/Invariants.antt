@@ -1,6 +1,8 @@
 use Rattle.std.proofs.Common.{◌≡◌, ℕ, ◌<◌, ◌≤◌, length, get_or}
 use Rattle.std.specs.List.{AllWithin}
 use Rattle.voice.specs.Voice.{fresh, tick, Bounded}
+use Rattle.voice.specs.declared.stereo.SideName.TheVariants.{Left, Right}
+use Rattle.voice.proofs.Sums.{Counted}
 use Rattle.chip.specs.Registers.{sounds}
 use Rattle.chip.proofs.registers.Registers.tick.Given as goal
 
@@ -11,3 +13,5 @@ invariant-loop-k g l =
     × ((k : ℕ) → l.k ≤ k → get_or l.voice-items k fresh ≡ get_or l.initial.voice-items k fresh)
     × (length l.voice-items ≡ 8)
     × AllWithin (λ v. Bounded v.latest) l.voice-items 0 l.k
+    × Counted Left l.k l.voice-items l.left
+    × Counted Right l.k l.voice-items l.right
