@@ -10,6 +10,7 @@ pub mod memory;
 pub mod notes;
 pub mod pitch;
 pub mod player;
+pub mod programs;
 pub mod refusal;
 pub mod station;
 pub mod stem;

@@ -33,16 +33,25 @@ pub struct Board<A, B> {
     pub second: B,
 }
 
+/// The bytes that can be reached.
+fn reached(bytes: &[u8]) -> &[u8] {
+    &bytes[..bytes.len().min(MOST_PLACES)]
+}
+
+fn read(bytes: &[u8], place: usize) -> Result<u8, Refusal> {
+    reached(bytes)
+        .get(place)
+        .copied()
+        .ok_or(Refusal::PastTheEnd)
+}
+
 impl Memory for Ram {
     fn size(&self) -> usize {
-        self.bytes.len().min(MOST_PLACES)
+        reached(&self.bytes).len()
     }
 
     fn read(&self, place: usize) -> Result<u8, Refusal> {
-        if place >= self.size() {
-            return Err(Refusal::PastTheEnd);
-        }
-        Ok(self.bytes[place])
+        read(&self.bytes, place)
     }
 
     fn write(&mut self, place: usize, byte: u8) -> Result<(), Refusal> {
@@ -56,14 +65,11 @@ impl Memory for Ram {
 
 impl Memory for Rom {
     fn size(&self) -> usize {
-        self.bytes.len().min(MOST_PLACES)
+        reached(&self.bytes).len()
     }
 
     fn read(&self, place: usize) -> Result<u8, Refusal> {
-        if place >= self.size() {
-            return Err(Refusal::PastTheEnd);
-        }
-        Ok(self.bytes[place])
+        read(&self.bytes, place)
     }
 
     fn write(&mut self, place: usize, _byte: u8) -> Result<(), Refusal> {

@@ -1,36 +1,15 @@
 //! Compares the text of a program `stem` with this package's, for inputs that are drawn from a seed.
 
 use std::collections::BTreeMap;
-use std::env;
-use std::io::{self, Read, Write};
-use std::process::{Command, ExitCode, Stdio};
-use std::thread;
+use std::io;
+use std::process::ExitCode;
 
 use second::generate::{stem_input, Dice};
+use second::programs::{printed, Order};
 use second::stem;
 
 /// The longest wait of the drawn logs.
 const LONGEST_WAIT: u16 = 200;
-
-fn printed(program: &str, input: &[u8]) -> io::Result<Vec<u8>> {
-    let mut child = Command::new(program)
-        .stdin(Stdio::piped())
-        .stdout(Stdio::piped())
-        .spawn()?;
-    let mut stdin = child.stdin.take().expect("a pipe");
-    let input = input.to_vec();
-    let writer = thread::spawn(move || stdin.write_all(&input));
-    let mut text = Vec::new();
-    child
-        .stdout
-        .take()
-        .expect("a pipe")
-        .read_to_end(&mut text)?;
-    // a program may end before it has read all
-    let _ = writer.join();
-    child.wait()?;
-    Ok(text)
-}
 
 /// How a text ends: `end`, or `fault` with its number.
 fn ending(text: &str) -> String {
@@ -39,12 +18,12 @@ fn ending(text: &str) -> String {
 }
 
 fn main() -> io::Result<ExitCode> {
-    let mut arguments = env::args().skip(1);
-    let (Some(program), Some(seed), Some(count)) = (
-        arguments.next(),
-        arguments.next().and_then(|word| word.parse().ok()),
-        arguments.next().and_then(|word| word.parse::<u32>().ok()),
-    ) else {
+    let Some(Order {
+        program,
+        seed,
+        count,
+    }) = Order::of_arguments()
+    else {
         eprintln!("usage: compare_stem PROGRAM SEED COUNT");
         return Ok(ExitCode::from(2));
     };
