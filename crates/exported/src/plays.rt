@@ -1,6 +1,6 @@
 // Playing a log over numbers, until the player stops or the lent buffers are full.
-ghost use Rattle.std.specs.Prelude.{◌≡◌};
-ghost use Rattle.wave.specs.Lent.{used};
+ghost use Rattle.std.specs.Prelude.{◌≡◌, ◌++◌};
+ghost use Rattle.wave.specs.Lent.{used, beyond};
 ghost use Rattle.chip.specs.Chip.{state};
 ghost use Rattle.player.specs.Step.{stand};
 ghost use Rattle.exported.specs.States.{registers_of, stand_of};
@@ -14,7 +14,7 @@ use chip::chip::Chip;
 use player::fault::Fault;
 use player::player::{Player, Progress};
 use voice::frame::Frame;
-use wave::memory::Store;
+use wave::memory::{MOST, Store};
 
 // What a player's step came to.
 #[repr(C)]
@@ -69,6 +69,28 @@ fn step_answer(answer: Result<Progress, Fault>) -> StepAnswer
 
 // Plays on, and fills the buffers from the front.
 pub fn play(
+    chip: &mut ChipState,
+    player: &mut PlayerState,
+    log: &[u8],
+    ram: &mut [u8],
+    rom: &[u8],
+    totals: &mut [Totals],
+    words: &mut [Words],
+) -> Played
+    ensures played { let o = playing log.now (begun (chip_over chip.old ram.old rom.now) (stand_of player.old) totals.old words.old) in
+        (result.ticks ≡ o.stage.ticks) × (result.last ≡ step_answer o.last) }
+    ensures buffers { let o = playing log.now (begun (chip_over chip.old ram.old rom.now) (stand_of player.old) totals.old words.old) in
+        (totals.new ≡ o.stage.totals) × (words.new ≡ o.stage.words) }
+    ensures states { let o = playing log.now (begun (chip_over chip.old ram.old rom.now) (stand_of player.old) totals.old words.old) in
+        (registers_of chip.new ≡ o.stage.chip.registers) × (stand_of player.new ≡ o.stage.player) }
+    ensures ram { let o = playing log.now (begun (chip_over chip.old ram.old rom.now) (stand_of player.old) totals.old words.old) in
+        ram.new ≡ ram_of ram.old o.stage.chip ++ beyond ram.old }
+{
+    let reached = ram.len().min(MOST);
+    play_reached(chip, player, log, &mut ram[..reached], rom, totals, words)
+}
+
+fn play_reached(
     chip: &mut ChipState,
     player: &mut PlayerState,
     log: &[u8],

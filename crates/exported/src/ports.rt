@@ -1,7 +1,7 @@
 // The calls of a chip over numbers: each loads the chip, carries out the call, and saves it again.
-ghost use Rattle.std.specs.Prelude.{◌≡◌, length};
+ghost use Rattle.std.specs.Prelude.{◌≡◌, ◌++◌, length};
 ghost use Rattle.outcome.specs.Outcome.{granted, kept};
-ghost use Rattle.wave.specs.Lent.{used};
+ghost use Rattle.wave.specs.Lent.{used, beyond};
 ghost use Rattle.chip.specs.Port.{write, read, inspect, tick};
 ghost use Rattle.exported.specs.States.{registers_of};
 ghost use Rattle.exported.specs.Ports.{bytes_of, chip_over, ram_of, refusal_number, read_answer, filled};
@@ -11,6 +11,7 @@ use crate::memories::{resume, resume_reading};
 use crate::states::ChipState;
 use chip::refusal::Refusal;
 use voice::frame::Frame as VoiceFrame;
+use wave::memory::MOST;
 
 // The byte of a read, or why it is refused.
 #[repr(C)]
@@ -31,6 +32,17 @@ fn refusal_number(answer: Result<(), Refusal>) -> u8
 }
 
 pub fn write(chip: &mut ChipState, ram: &mut [u8], rom: &[u8], address: u16, byte: u8) -> u8
+    ensures answer { result ≡ refusal_number (granted (write (chip_over chip.old ram.old rom.now) address byte)) }
+    ensures registers { let c = chip_over chip.old ram.old rom.now in
+        registers_of chip.new ≡ (kept c (write c address byte)).registers }
+    ensures ram { let c = chip_over chip.old ram.old rom.now in
+        ram.new ≡ ram_of ram.old (kept c (write c address byte)) ++ beyond ram.old }
+{
+    let reached = ram.len().min(MOST);
+    write_reached(chip, &mut ram[..reached], rom, address, byte)
+}
+
+fn write_reached(chip: &mut ChipState, ram: &mut [u8], rom: &[u8], address: u16, byte: u8) -> u8
     ensures answer { result ≡ refusal_number (granted (write (chip_over chip.old ram.old rom.now) address byte)) }
     ensures registers { let c = chip_over chip.old ram.old rom.now in
         registers_of chip.new ≡ (kept c (write c address byte)).registers }

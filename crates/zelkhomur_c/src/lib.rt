@@ -1,9 +1,9 @@
 // What C links: each function of `exported` under its name in C.
 #![tactic(auto)]
 
-ghost use Rattle.std.specs.Prelude.{◌≡◌, length, map, None};
+ghost use Rattle.std.specs.Prelude.{◌≡◌, ◌++◌, length, map, None};
 ghost use Rattle.outcome.specs.Outcome.{granted, kept};
-ghost use Rattle.wave.specs.Lent.{used};
+ghost use Rattle.wave.specs.Lent.{beyond};
 ghost use Rattle.voice.specs.declared.stereo.SideName.TheVariants.{Left, Right};
 ghost use Rattle.chip.specs.Port.{write, read, inspect, tick};
 ghost use Rattle.chip.specs.Registers.{made, reset, latest};
@@ -89,7 +89,7 @@ pub extern "C" fn zelkhomur_write(
     ensures registers { let c = chip_over chip.old ram.old rom.now in
         registers_of chip.new ≡ (kept c (write c address byte)).registers }
     ensures ram { let c = chip_over chip.old ram.old rom.now in
-        used ram.new ≡ ram_of ram.new (kept c (write c address byte)) }
+        ram.new ≡ ram_of ram.old (kept c (write c address byte)) ++ beyond ram.old }
 {
     ports::write(chip, ram, rom, address, byte)
 }
@@ -170,7 +170,7 @@ pub extern "C" fn zelkhomur_play(
     ensures states { let o = playing log.now (begun (chip_over chip.old ram.old rom.now) (stand_of player.old) totals.old words.old) in
         (registers_of chip.new ≡ o.stage.chip.registers) × (stand_of player.new ≡ o.stage.player) }
     ensures ram { let o = playing log.now (begun (chip_over chip.old ram.old rom.now) (stand_of player.old) totals.old words.old) in
-        used ram.new ≡ ram_of ram.new o.stage.chip }
+        ram.new ≡ ram_of ram.old o.stage.chip ++ beyond ram.old }
 {
     plays::play(chip, player, log, ram, rom, totals, words)
 }
