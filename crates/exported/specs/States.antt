@@ -145,3 +145,7 @@ saved_player place (Waiting b left) = record { place = place; bit = b; ticks = l
 saved_player place (Ended b) = record { place = place; bit = b; ticks = 0; address = 0; state = 2; number = 0; has_address = 0 }
 saved_player place (Faulted f) =
     record { place = place; bit = bit f; ticks = 0; address = address f; state = 3; number = number f; has_address = flag (address_of f) }
+
+-- what is saved of a player
+abbrev pub saved_stand : Stand → PlayerState
+saved_stand p = saved_player p.place p.state

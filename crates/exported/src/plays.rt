@@ -3,7 +3,7 @@ ghost use Rattle.std.specs.Prelude.{◌≡◌, ◌++◌};
 ghost use Rattle.wave.specs.Lent.{used, beyond};
 ghost use Rattle.chip.specs.Chip.{state};
 ghost use Rattle.player.specs.Step.{stand};
-ghost use Rattle.exported.specs.States.{registers_of, stand_of};
+ghost use Rattle.exported.specs.States.{stand_of, saved_chip, saved_stand};
 ghost use Rattle.exported.specs.Ports.{chip_over, ram_of};
 ghost use Rattle.exported.specs.Plays.{step_answer, stage, begun, outcome, playing};
 
@@ -82,7 +82,7 @@ pub fn play(
     ensures buffers { let o = playing log.now (begun (chip_over chip.old ram.old rom.now) (stand_of player.old) totals.old words.old) in
         (totals.new ≡ o.stage.totals) × (words.new ≡ o.stage.words) }
     ensures states { let o = playing log.now (begun (chip_over chip.old ram.old rom.now) (stand_of player.old) totals.old words.old) in
-        (registers_of chip.new ≡ o.stage.chip.registers) × (stand_of player.new ≡ o.stage.player) }
+        (chip.new ≡ saved_chip o.stage.chip.registers) × (player.new ≡ saved_stand o.stage.player) }
     ensures ram { let o = playing log.now (begun (chip_over chip.old ram.old rom.now) (stand_of player.old) totals.old words.old) in
         ram.new ≡ ram_of ram.old o.stage.chip ++ beyond ram.old }
 {
@@ -104,7 +104,7 @@ fn play_reached(
     ensures buffers { let o = playing log.now (begun (chip_over chip.old ram.old rom.now) (stand_of player.old) totals.old words.old) in
         (totals.new ≡ o.stage.totals) × (words.new ≡ o.stage.words) }
     ensures states { let o = playing log.now (begun (chip_over chip.old ram.old rom.now) (stand_of player.old) totals.old words.old) in
-        (registers_of chip.new ≡ o.stage.chip.registers) × (stand_of player.new ≡ o.stage.player) }
+        (chip.new ≡ saved_chip o.stage.chip.registers) × (player.new ≡ saved_stand o.stage.player) }
     ensures ram { let o = playing log.now (begun (chip_over chip.old ram.old rom.now) (stand_of player.old) totals.old words.old) in
         used ram.new ≡ ram_of ram.new o.stage.chip }
 {
@@ -133,7 +133,7 @@ fn play_through<'a>(
     ensures buffers { let o = playing log.now (begun (chip_over chip.old ram.old rom.now) (stand_of player.old) totals.old words.old) in
         (totals.new ≡ o.stage.totals) × (words.new ≡ o.stage.words) }
     ensures states { let o = playing log.now (begun (chip_over chip.old ram.old rom.now) (stand_of player.old) totals.old words.old) in
-        (registers_of chip.new ≡ o.stage.chip.registers) × (stand_of player.new ≡ o.stage.player) }
+        (chip.new ≡ saved_chip o.stage.chip.registers) × (player.new ≡ saved_stand o.stage.player) }
     ensures ram { let o = playing log.now (begun (chip_over chip.old ram.old rom.now) (stand_of player.old) totals.old words.old) in
         used result.now ≡ ram_of result.now o.stage.chip }
 {

@@ -3,7 +3,7 @@ ghost use Rattle.std.specs.Prelude.{◌≡◌, ◌++◌, length};
 ghost use Rattle.outcome.specs.Outcome.{granted, kept};
 ghost use Rattle.wave.specs.Lent.{used, beyond};
 ghost use Rattle.chip.specs.Port.{write, read, inspect, tick};
-ghost use Rattle.exported.specs.States.{registers_of};
+ghost use Rattle.exported.specs.States.{registers_of, saved_chip};
 ghost use Rattle.exported.specs.Ports.{bytes_of, chip_over, ram_of, refusal_number, read_answer, filled};
 
 use crate::frames::Frame;
@@ -34,7 +34,7 @@ fn refusal_number(answer: Result<(), Refusal>) -> u8
 pub fn write(chip: &mut ChipState, ram: &mut [u8], rom: &[u8], address: u16, byte: u8) -> u8
     ensures answer { result ≡ refusal_number (granted (write (chip_over chip.old ram.old rom.now) address byte)) }
     ensures registers { let c = chip_over chip.old ram.old rom.now in
-        registers_of chip.new ≡ (kept c (write c address byte)).registers }
+        chip.new ≡ saved_chip (kept c (write c address byte)).registers }
     ensures ram { let c = chip_over chip.old ram.old rom.now in
         ram.new ≡ ram_of ram.old (kept c (write c address byte)) ++ beyond ram.old }
 {
@@ -45,7 +45,7 @@ pub fn write(chip: &mut ChipState, ram: &mut [u8], rom: &[u8], address: u16, byt
 fn write_reached(chip: &mut ChipState, ram: &mut [u8], rom: &[u8], address: u16, byte: u8) -> u8
     ensures answer { result ≡ refusal_number (granted (write (chip_over chip.old ram.old rom.now) address byte)) }
     ensures registers { let c = chip_over chip.old ram.old rom.now in
-        registers_of chip.new ≡ (kept c (write c address byte)).registers }
+        chip.new ≡ saved_chip (kept c (write c address byte)).registers }
     ensures ram { let c = chip_over chip.old ram.old rom.now in
         used ram.new ≡ ram_of ram.new (kept c (write c address byte)) }
 {
@@ -66,7 +66,7 @@ fn write_through<'a>(
     ensures same_reference { result.ghost_name ≡ ram.entry.ghost_name }
     ensures answer { answer.new ≡ granted (write (chip_over chip.old ram.old rom.now) address byte) }
     ensures registers { let c = chip_over chip.old ram.old rom.now in
-        registers_of chip.new ≡ (kept c (write c address byte)).registers }
+        chip.new ≡ saved_chip (kept c (write c address byte)).registers }
     ensures ram { let c = chip_over chip.old ram.old rom.now in
         used result.now ≡ ram_of result.now (kept c (write c address byte)) }
 {
@@ -102,8 +102,8 @@ pub fn inspect(chip: &ChipState, ram: &[u8], rom: &[u8], offset: u16, buffer: &m
 // One tick, which fills the frame.
 pub fn tick(chip: &mut ChipState, ram: &[u8], rom: &[u8], frame: &mut Frame) -> u8
     ensures answer { result ≡ refusal_number (granted (tick (bytes_of ram.now rom.now) (registers_of chip.old))) }
-    ensures registers { registers_of chip.new
-        ≡ kept (registers_of chip.old) (tick (bytes_of ram.now rom.now) (registers_of chip.old)) }
+    ensures registers { chip.new
+        ≡ saved_chip (kept (registers_of chip.old) (tick (bytes_of ram.now rom.now) (registers_of chip.old))) }
     ensures frame { frame.new ≡ filled frame.old (tick (bytes_of ram.now rom.now) (registers_of chip.old)) }
 {
     let mut playing = resume_reading(chip, ram, rom);

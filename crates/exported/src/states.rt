@@ -2,7 +2,7 @@
 ghost use Rattle.std.specs.Prelude.{◌≡◌, map};
 ghost use Rattle.player.specs.Step.{new};
 ghost use Rattle.chip.specs.Registers.{made, reset, latest};
-ghost use Rattle.exported.specs.States.{converter_of, voice_of, saved_voice, setup_of, registers_of, saved_chip, chip_refusal_of, log_fault_of, address_of, fault_of, state_of, stand_of, saved_player, flag, side_contributions};
+ghost use Rattle.exported.specs.States.{converter_of, voice_of, saved_voice, setup_of, registers_of, saved_chip, chip_refusal_of, log_fault_of, address_of, fault_of, state_of, stand_of, saved_player, saved_stand, flag, side_contributions};
 ghost use Rattle.voice.specs.declared.stereo.SideName.TheVariants.{Left, Right};
 
 use crate::logs::{kind_number, kind_of};
@@ -118,7 +118,7 @@ pub struct Contributions {
 
 impl ChipState {
     pub fn new(kind: u8, converter: u8, mutes: u8) -> ChipState
-        ensures { registers_of result ≡ made (setup_of kind converter mutes) }
+        ensures { result ≡ saved_chip (made (setup_of kind converter mutes)) }
     {
         let setup = Setup {
             kind: kind_of(kind),
@@ -129,7 +129,7 @@ impl ChipState {
     }
 
     pub fn reset(&mut self)
-        ensures { registers_of self.new ≡ reset (registers_of self.old) }
+        ensures { self.new ≡ saved_chip (reset (registers_of self.old)) }
     {
         let mut chip = Chip::resume((), self.registers());
         chip.reset();
@@ -150,7 +150,8 @@ impl ChipState {
 
     // What is saved is loaded again.
     pub(crate) fn save(registers: Registers) -> ChipState
-        ensures { registers_of result ≡ registers }
+        ensures saved { result ≡ saved_chip registers }
+        ensures loaded { registers_of result ≡ registers }
     {
         numbers_of(registers)
     }
@@ -241,7 +242,7 @@ pub struct PlayerState {
 impl PlayerState {
     // Before the first step.
     pub fn new() -> PlayerState
-        ensures { stand_of result ≡ new }
+        ensures { result ≡ saved_stand new }
     {
         PlayerState::save(0, State::Between)
     }

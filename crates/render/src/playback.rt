@@ -1,5 +1,5 @@
 // A log that is played on a chip, as the text of its ticks: piece by piece, into a lent buffer.
-ghost use Rattle.std.specs.Prelude.{◌≡◌, ◌<◌, ◌≤◌, ◌++◌, length, take, drop, None};
+ghost use Rattle.std.specs.Prelude.{◌≡◌, ◌+◌, ◌<◌, ◌≤◌, ◌++◌, length, take, drop, None};
 ghost use Rattle.lines.specs.Line.{longest};
 ghost use Rattle.player.specs.Step.{stand, new};
 ghost use Rattle.chip.specs.Chip.{state};
@@ -43,7 +43,7 @@ impl<'a, M: Store> Playback<'a, M> {
             ≡ take result.length buffer.new ++ closed result.last (rest M.bytes M.takes self.new) }
         ensures beyond { drop result.length buffer.new ≡ drop result.length buffer.old }
         ensures within { result.length ≤ length buffer.old }
-        ensures goes_on { longest ≤ length buffer.old → result.last ≡ None → 0 < result.length }
+        ensures full { result.last ≡ None → length buffer.old < result.length + longest }
     {
         let mut frame = Frame::default();
         let mut length = 0;

@@ -13,7 +13,7 @@ ghost use Rattle.register_log.specs.Header.{header};
 ghost use Rattle.whole_log.specs.Outcome.{recording, copied};
 ghost use Rattle.exported.specs.Tones.{fd_answer};
 ghost use Rattle.exported.specs.Logs.{header_answer, header_of, entry_of, recorded_answer};
-ghost use Rattle.exported.specs.States.{setup_of, registers_of, stand_of, side_contributions};
+ghost use Rattle.exported.specs.States.{setup_of, registers_of, saved_chip, stand_of, saved_stand, side_contributions};
 ghost use Rattle.exported.specs.Ports.{bytes_of, chip_over, ram_of, refusal_number, read_answer, filled};
 ghost use Rattle.exported.specs.Plays.{step_answer, begun, playing};
 
@@ -65,14 +65,14 @@ pub extern "C" fn zelkhomur_copy_log(log: &[u8], buffer: &mut [u8]) -> Recorded
 
 #[unsafe(no_mangle)]
 pub extern "C" fn zelkhomur_new_chip(kind: u8, converter: u8, mutes: u8) -> ChipState
-    ensures { registers_of result ≡ made (setup_of kind converter mutes) }
+    ensures { result ≡ saved_chip (made (setup_of kind converter mutes)) }
 {
     ChipState::new(kind, converter, mutes)
 }
 
 #[unsafe(no_mangle)]
 pub extern "C" fn zelkhomur_reset(chip: &mut ChipState)
-    ensures { registers_of chip.new ≡ reset (registers_of chip.old) }
+    ensures { chip.new ≡ saved_chip (reset (registers_of chip.old)) }
 {
     chip.reset();
 }
@@ -87,7 +87,7 @@ pub extern "C" fn zelkhomur_write(
 ) -> u8
     ensures answer { result ≡ refusal_number (granted (write (chip_over chip.old ram.old rom.now) address byte)) }
     ensures registers { let c = chip_over chip.old ram.old rom.now in
-        registers_of chip.new ≡ (kept c (write c address byte)).registers }
+        chip.new ≡ saved_chip (kept c (write c address byte)).registers }
     ensures ram { let c = chip_over chip.old ram.old rom.now in
         ram.new ≡ ram_of ram.old (kept c (write c address byte)) ++ beyond ram.old }
 {
@@ -131,8 +131,8 @@ pub extern "C" fn zelkhomur_tick(
     frame: &mut Frame,
 ) -> u8
     ensures answer { result ≡ refusal_number (granted (tick (bytes_of ram.now rom.now) (registers_of chip.old))) }
-    ensures registers { registers_of chip.new
-        ≡ kept (registers_of chip.old) (tick (bytes_of ram.now rom.now) (registers_of chip.old)) }
+    ensures registers { chip.new
+        ≡ saved_chip (kept (registers_of chip.old) (tick (bytes_of ram.now rom.now) (registers_of chip.old))) }
     ensures frame { frame.new ≡ filled frame.old (tick (bytes_of ram.now rom.now) (registers_of chip.old)) }
 {
     ports::tick(chip, ram, rom, frame)
@@ -148,7 +148,7 @@ pub extern "C" fn zelkhomur_tell(chip: &ChipState) -> Contributions
 
 #[unsafe(no_mangle)]
 pub extern "C" fn zelkhomur_new_player() -> PlayerState
-    ensures { stand_of result ≡ new }
+    ensures { result ≡ saved_stand new }
 {
     PlayerState::new()
 }
@@ -168,7 +168,7 @@ pub extern "C" fn zelkhomur_play(
     ensures buffers { let o = playing log.now (begun (chip_over chip.old ram.old rom.now) (stand_of player.old) totals.old words.old) in
         (totals.new ≡ o.stage.totals) × (words.new ≡ o.stage.words) }
     ensures states { let o = playing log.now (begun (chip_over chip.old ram.old rom.now) (stand_of player.old) totals.old words.old) in
-        (registers_of chip.new ≡ o.stage.chip.registers) × (stand_of player.new ≡ o.stage.player) }
+        (chip.new ≡ saved_chip o.stage.chip.registers) × (player.new ≡ saved_stand o.stage.player) }
     ensures ram { let o = playing log.now (begun (chip_over chip.old ram.old rom.now) (stand_of player.old) totals.old words.old) in
         ram.new ≡ ram_of ram.old o.stage.chip ++ beyond ram.old }
 {

@@ -1,5 +1,5 @@
 use Rattle.std.proofs.Common.{◌∙◌, ap, arith}
-use Rattle.exported.specs.States.{stand_of}
+use Rattle.exported.specs.States.{stand_of, saved_chip, saved_stand}
 use Rattle.exported.specs.Plays.{step_answer}
 use Rattle.exported.specs.Ports.{ram_of}
 use Rattle.exported.proofs.Boards.{playing_reached, reached_again}
@@ -21,7 +21,7 @@ pub returns-clause-states : goal.returns-clause-states
 returns-clause-states c =
     let out = playing_reached c.args.log.now c.args.chip.now c.args.ram.now c.args.rom.now c.min-reached.result
     (stand_of c.args.player.now) c.args.totals.now c.args.words.now c.min-reached.ensures in
-    (c.play_reached.ensures.states.0 ∙ ap (λ o. o.stage.chip.registers) out, c.play_reached.ensures.states.1 ∙ ap (λ o. o.stage.player) out)
+    (c.play_reached.ensures.states.0 ∙ ap (λ o. saved_chip o.stage.chip.registers) out, c.play_reached.ensures.states.1 ∙ ap (λ o. saved_stand o.stage.player) out)
 
 pub returns-clause-ram : goal.returns-clause-ram
 returns-clause-ram c =

@@ -1,8 +1,9 @@
-use Rattle.std.proofs.Common.{◌∙◌, ap, length, take}
+use Rattle.std.proofs.Common.{◌∙◌, ap, ap₂, length, take}
 use Rattle.wave.specs.Lent.{used}
 use Rattle.player.specs.Step.{Stand}
 use Rattle.player.specs.declared.player.State.{State}
 use Rattle.exported.specs.Plays.{step_answer}
+use Rattle.exported.specs.States.{saved_chip, saved_player, saved_stand}
 use Rattle.exported.proofs.Boards.{front, resumed, same_start}
 use Rattle.exported.proofs.plays.play_through.Goals as goal
 
@@ -13,6 +14,16 @@ returns-clause-played c =
     let player = c.resume-reading.ensures.stand ∙ ap at c.state.ensures in
     let out = c.play_on-ticks.ensures.played ∙ same_start _ _ _ _ _ _ c.args.totals.now c.args.words.now c.resume-reading.ensures.log chip player in
     (ap (λ o. o.stage.ticks) out, c.step_answer.ensures ∙ ap (λ o. step_answer o.last) out)
+
+pub returns-clause-states : goal.returns-clause-states
+returns-clause-states c =
+    let chip = resumed _ _ _ _ _ _ c.resume-sounding.ensures.registers c.resume-sounding.ensures.ram.0 c.resume-sounding.ensures.rom in
+    let at : State → Stand = λ s. record { place = c.args.player.now.place; state = s } in
+    let player = c.resume-reading.ensures.stand ∙ ap at c.state.ensures in
+    let out = c.play_on-ticks.ensures.played ∙ same_start _ _ _ _ _ _ c.args.totals.now c.args.words.now c.resume-reading.ensures.log chip player in (
+      c.save.ensures.saved ∙ ap saved_chip (c.registers.ensures ∙ ap (λ o. o.stage.chip.registers) out),
+      c.save-2.ensures.saved ∙ ap₂ (λ p s. saved_player p s) c.place.ensures c.state-2.ensures ∙ ap (λ o. saved_stand o.stage.player) out,
+    )
 
 pub returns-clause-ram : goal.returns-clause-ram
 returns-clause-ram c =

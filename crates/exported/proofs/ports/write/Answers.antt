@@ -1,6 +1,7 @@
 use Rattle.std.proofs.Common.{◌∙◌, ap, arith}
 use Rattle.outcome.specs.Outcome.{granted, kept}
 use Rattle.chip.specs.Port.{write}
+use Rattle.exported.specs.States.{saved_chip}
 use Rattle.exported.specs.Ports.{refusal_number, ram_of}
 use Rattle.exported.proofs.Boards.{reached_chip, reached_again}
 use Rattle.exported.proofs.ports.write.Goals as goal
@@ -13,7 +14,7 @@ returns-clause-answer c =
 pub returns-clause-registers : goal.returns-clause-registers
 returns-clause-registers c =
     let alike = reached_chip c.args.chip.now c.args.ram.now c.args.rom.now c.min-reached.result c.min-reached.ensures in
-    c.write_reached.ensures.registers ∙ ap (λ s. (kept s (write s c.args.address c.args.byte)).registers) alike
+    c.write_reached.ensures.registers ∙ ap (λ s. saved_chip (kept s (write s c.args.address c.args.byte)).registers) alike
 
 pub returns-clause-ram : goal.returns-clause-ram
 returns-clause-ram c =

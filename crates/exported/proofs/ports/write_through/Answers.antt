@@ -1,5 +1,6 @@
 use Rattle.std.proofs.Common.{◌∙◌, ap, length, take}
 use Rattle.wave.specs.Lent.{used}
+use Rattle.exported.specs.States.{saved_chip}
 use Rattle.exported.proofs.Boards.{front}
 use Rattle.exported.proofs.ports.write_through.Goals as goal
 
@@ -10,7 +11,7 @@ returns-clause-answer c =
 pub returns-clause-registers : goal.returns-clause-registers
 returns-clause-registers c =
     let after = rw (c.resume-playing.ensures.registers, c.resume-playing.ensures.ram.0, c.resume-playing.ensures.rom) at c.write.ensures.after in
-    c.save.ensures ∙ c.registers.ensures ∙ ap (λ s. s.registers) after
+    c.save.ensures.saved ∙ ap saved_chip (c.registers.ensures ∙ ap (λ s. s.registers) after)
 
 pub returns-clause-ram : goal.returns-clause-ram
 returns-clause-ram c =
