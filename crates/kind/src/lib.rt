@@ -34,6 +34,8 @@ impl Kind {
 impl fmt::Display for Kind {
     ghost output = { λ kind. Some (name kind) };
 
+    ghost styled_output = { λ kind _. Some (name kind) };
+
     fn fmt<W: fmt::Write>(&self, f: &mut fmt::Formatter<W>) -> fmt::Result {
         f.write_str(match self {
             Kind::Rf5c68a => "RF5C68A",
