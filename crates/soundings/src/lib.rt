@@ -1,10 +1,10 @@
 // Known soundings: examples that the rules decide, carried out by the code.
 #![tactic(auto)]
 
-ghost use Rattle.std.specs.Prelude.{◌≡◌, ℕ, true, Some, Ok};
+ghost use Rattle.std.specs.Prelude.{◌≡◌, ◌↔◌, true, Some, Ok, IsTrue};
 ghost use Rattle.voice.specs.Voice.{heard, onward};
 ghost use Rattle.register_log.specs.Header.{header};
-ghost use Rattle.register_log.specs.Reading.{end, found, decode};
+ghost use Rattle.register_log.specs.Reading.{end, found, decode, place_after};
 ghost use Rattle.register_log.specs.Record.{register};
 ghost use Rattle.pitch.specs.Pitch.{fd};
 ghost use Rattle.soundings.specs.Known.{Known, loud, moving, both, total, clocked};
@@ -147,16 +147,18 @@ fn control_log() -> bool
 }
 
 fn is_clocked(log: &[u8]) -> bool
-    ensures { header log.now ≡ Ok clocked → result ≡ true }
+    ensures { IsTrue result ↔ (header log.now ≡ Ok clocked) }
 {
     Header::read(log) == Ok(CLOCKED)
 }
 
 // Whether a reader answers a write of C0H to register 7.
 fn writes_control(reader: &mut Reader<'_>) -> bool
-    ensures { (next : ℕ) →
-        decode reader.old.log.now reader.old.place ≡ Ok (found (register 7 192) next) →
-        (result ≡ true) × (reader.new.place ≡ next) × (reader.new.log.now ≡ reader.old.log.now) }
+    ensures written { IsTrue result
+        ↔ (decode reader.old.log.now reader.old.place ≡ Ok (found (register 7 192) reader.new.place)) }
+    ensures place { reader.new.place
+        ≡ place_after reader.old.place (decode reader.old.log.now reader.old.place) }
+    ensures log { reader.new.log.now ≡ reader.old.log.now }
 {
     matches!(
         reader.next(),
@@ -168,7 +170,7 @@ fn writes_control(reader: &mut Reader<'_>) -> bool
 }
 
 fn ends(reader: &mut Reader<'_>) -> bool
-    ensures { decode reader.old.log.now reader.old.place ≡ Ok end → result ≡ true }
+    ensures { IsTrue result ↔ (decode reader.old.log.now reader.old.place ≡ Ok end) }
 {
     matches!(reader.next(), Ok(None))
 }

@@ -4,6 +4,7 @@ use Rattle.soundings.proofs.control_log.Goals as goal
 
 pub returns : goal.returns
 returns c =
-    let written = c.writes_control-written.ensures 47 (rw (c.new-reader.ensures.log, c.new-reader.ensures.place) known.control_record) in
-    let ended = c.ends-ended.ensures (rw (written.2, written.1, c.new-reader.ensures.log) known.control_end) in
-    rw (c.is_clocked-clocked.ensures known.control_header, written.0, ended) refl
+    let place = rw (c.new-reader.ensures.log, c.new-reader.ensures.place, known.control_record) at c.writes_control-written.ensures.place in
+    let written = c.writes_control-written.ensures.written.1 (rw (place, c.new-reader.ensures.log, c.new-reader.ensures.place) known.control_record) in
+    let ended = c.ends-ended.ensures.1 (rw (place, c.writes_control-written.ensures.log, c.new-reader.ensures.log) known.control_end) in
+    rw (c.is_clocked-clocked.ensures.1 known.control_header, written, ended) refl
