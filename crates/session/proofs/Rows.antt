@@ -8,6 +8,12 @@ mapped_to i f [] = []
 mapped_to zero f (x ∷ xs) = x ∷ xs
 mapped_to (suc i) f (x ∷ xs) = f x ∷ mapped_to i f xs
 
+pub mapped_same : {A : Type 0} (i : ℕ) (xs : List A) → mapped_to i (λ x. x) xs ≡ xs
+unfolding mapped_to
+mapped_same i [] = refl
+mapped_same zero (x ∷ xs) = refl
+mapped_same (suc i) (x ∷ xs) = ap (λ l. x ∷ l) (mapped_same i xs)
+
 module _ {A : Type 0} (f : A → A) where
   pub mapped_none : (xs : List A) → xs ≡ mapped_to 0 f xs
   unfolding mapped_to
@@ -56,3 +62,10 @@ module _ {S A : Type 0} (h : S → A) (f : A → A) (first : List S) (i : ℕ) w
 
   pub mapped_whole : length first ≤ i → mapped_to i f (map h first) ≡ map f (map h first)
   mapped_whole l = mapped_all f i (map h first) (omega (arith, length-map first h))
+
+-- A list whose elements are replaced one by one by such that a function does not tell from them
+pub mapped_kept :
+    {S A : Type 0} (h : S → A) (first : List S) (i : ℕ) (items : List S) (d y : S) → i < length first → h y ≡ h (get_or items i d) →
+    map h items ≡ map h first → map h (set items i y) ≡ map h first
+mapped_kept h first i items d y inside e w =
+    mapped_more h (λ x. x) first i items d y inside e (w ∙ sym (mapped_same i (map h first))) ∙ mapped_same (i + 1) (map h first)

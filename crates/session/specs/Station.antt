@@ -39,6 +39,10 @@ model bytes takes s =
       answer = s.answer;
     }
 
+-- the names of the loans that a station holds: its buffer's, and those of its memory
+abbrev pub held : {M : Type 0} → (M → List ℕ) → Station M → List ℕ
+held borrows s = s.buffer.ghost_name ∷ borrows s.chip.memory
+
 -- the frame before any tick
 abbrev pub blank_side : Side
 blank_side = record { contributions = replicate 8 (pos 0); total = pos 0; word = 0 }

@@ -1,7 +1,7 @@
 // A session: a mix and its stems, on which the same calls are tried.
 ghost use Rattle.std.specs.Prelude.{◌≡◌, ℕ, List, map};
 ghost use Rattle.kind.specs.declared.Kind.{Kind as AKind};
-ghost use Rattle.session.specs.Station.{model, tried, tried_all};
+ghost use Rattle.session.specs.Station.{model, held, tried, tried_all};
 ghost use Rattle.session.specs.Groups.{Divides};
 ghost use Rattle.session.specs.Stems.{Begun, MixAndStems};
 ghost use Rattle.session.specs.Law.{Together, Throughout, Law};
@@ -22,6 +22,8 @@ impl<M: Store, S: Stems> Session<'_, '_, M, S> {
     pub fn try_call(&mut self, call: Call)
         ensures mix { model M.bytes M.takes self.new.mix ≡ tried call (model M.bytes M.takes self.old.mix) }
         ensures stems { S.models self.new.stems ≡ map (tried call) (S.models self.old.stems) }
+        ensures mix_loans { held M.borrows self.new.mix ≡ held M.borrows self.old.mix }
+        ensures stem_loans { S.loans self.new.stems ≡ S.loans self.old.stems }
         ensures kept { (groups : List ℕ) → Divides groups →
             MixAndStems groups (model M.bytes M.takes self.old.mix) (S.models self.old.stems) →
             MixAndStems groups (model M.bytes M.takes self.new.mix) (S.models self.new.stems) }
@@ -38,6 +40,8 @@ impl<M: Store, S: Stems> Session<'_, '_, M, S> {
         ensures mix { model M.bytes M.takes self.new.mix
             ≡ tried_all calls.now (model M.bytes M.takes self.old.mix) }
         ensures stems { S.models self.new.stems ≡ map (tried_all calls.now) (S.models self.old.stems) }
+        ensures mix_loans { held M.borrows self.new.mix ≡ held M.borrows self.old.mix }
+        ensures stem_loans { S.loans self.new.stems ≡ S.loans self.old.stems }
         ensures throughout { (groups : List ℕ) → Divides groups →
             MixAndStems groups (model M.bytes M.takes self.old.mix) (S.models self.old.stems) →
             Throughout groups calls.now (model M.bytes M.takes self.old.mix) (S.models self.old.stems) }

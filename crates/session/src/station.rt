@@ -1,7 +1,7 @@
 // A station: a chip with a player of a log, and what their calls fill.
-ghost use Rattle.std.specs.Prelude.{◌≡◌};
+ghost use Rattle.std.specs.Prelude.{◌≡◌, ◌∷◌};
 ghost use Rattle.wave.specs.Means.{means};
-ghost use Rattle.session.specs.Station.{model, begun, tried};
+ghost use Rattle.session.specs.Station.{model, held, begun, tried};
 
 use crate::call::{Answer, Call};
 use calls::perform;
@@ -35,8 +35,9 @@ impl<'a, 'b, M: Store> Station<'a, 'b, M> {
         log: &'a [u8],
         buffer: &'b mut [u8],
     ) -> Station<'a, 'b, M>
-        ensures { model M.bytes M.takes result
+        ensures values { model M.bytes M.takes result
             ≡ begun group kind converter (means M.bytes M.takes memory) log.now buffer.old }
+        ensures loans { held M.borrows result ≡ buffer.entry.ghost_name ∷ M.borrows memory }
     {
         let setup = Setup {
             kind,
@@ -54,7 +55,8 @@ impl<'a, 'b, M: Store> Station<'a, 'b, M> {
 
     // Tries a call, granted or refused.
     pub fn try_call(&mut self, call: Call)
-        ensures { model M.bytes M.takes self.new ≡ tried call (model M.bytes M.takes self.old) }
+        ensures values { model M.bytes M.takes self.new ≡ tried call (model M.bytes M.takes self.old) }
+        ensures same_loans { held M.borrows self.new ≡ held M.borrows self.old }
     {
         self.answer = Some(match call {
             Call::Chip(call) => {

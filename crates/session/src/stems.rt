@@ -1,6 +1,6 @@
 // Stations in a row, each over a memory of whatever make.
-ghost use Rattle.std.specs.Prelude.{◌≡◌, List, [], ◌∷◌, map};
-ghost use Rattle.session.specs.Station.{Model, model, tried};
+ghost use Rattle.std.specs.Prelude.{◌≡◌, ℕ, List, [], ◌∷◌, map};
+ghost use Rattle.session.specs.Station.{Model, model, held, tried};
 
 use crate::call::Call;
 use crate::station::Station;
@@ -9,14 +9,20 @@ use wave::memory::Store;
 pub trait Stems {
     ghost models: { Self → List Model };
 
+    // the names of the loans that they hold, those of each station in a list: what calls leave in them reaches their lenders
+    ghost loans: { Self → List (List ℕ) };
+
     // Tries a call on each.
     fn try_each(&mut self, call: Call)
-        ensures { models self.new ≡ map (tried call) (models self.old) };
+        ensures values { models self.new ≡ map (tried call) (models self.old) }
+        ensures same_loans { loans self.new ≡ loans self.old };
 }
 
 // No station.
 impl Stems for () {
     ghost models = { λ stems. [] };
+
+    ghost loans = { λ stems. [] };
 
     fn try_each(&mut self, _call: Call) {}
 }
@@ -24,6 +30,8 @@ impl Stems for () {
 // A station, and then others: of three makes, `(a, (b, (c, ())))`.
 impl<M: Store, R: Stems> Stems for (Station<'_, '_, M>, R) {
     ghost models = { λ stems. model M.bytes M.takes stems.0 ∷ R.models stems.1 };
+
+    ghost loans = { λ stems. held M.borrows stems.0 ∷ R.loans stems.1 };
 
     fn try_each(&mut self, call: Call) {
         self.0.try_call(call);
@@ -35,14 +43,17 @@ impl<M: Store, R: Stems> Stems for (Station<'_, '_, M>, R) {
 impl<M: Store> Stems for &mut [Station<'_, '_, M>] {
     ghost models = { λ stems. map (model M.bytes M.takes) stems.now };
 
+    ghost loans = { λ stems. map (held M.borrows) stems.now };
+
     fn try_each(&mut self, call: Call) {
         try_row(self, call);
     }
 }
 
 fn try_row<M: Store>(stations: &mut [Station<'_, '_, M>], call: Call)
-    ensures { map (model M.bytes M.takes) stations.new
+    ensures values { map (model M.bytes M.takes) stations.new
         ≡ map (tried call) (map (model M.bytes M.takes) stations.old) }
+    ensures same_loans { map (held M.borrows) stations.new ≡ map (held M.borrows) stations.old }
 {
     for station in stations.iter_mut() {
         station.try_call(call);

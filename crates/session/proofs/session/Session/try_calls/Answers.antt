@@ -1,3 +1,4 @@
+use Rattle.std.proofs.Common.{◌∙◌}
 use Rattle.session.proofs.Runs.{mix_next, stems_next, stems_all, throughout, law}
 use Rattle.session.proofs.session.Session.try_calls.Goals as goal
 
@@ -7,6 +8,8 @@ loop-call-preserved g c =
     let here = c.loop-call.invariant in (
       mix_next c.args.calls.now c.loop-call.call-index _ c.loop-call-test.true _ _ _ p.mix here.0,
       stems_next c.args.calls.now c.loop-call.call-index _ c.loop-call-test.true _ _ _ p.stems here.1,
+      p.mix_loans ∙ here.2,
+      p.stem_loans ∙ here.3,
     )
 
 pub returns-clause-stems : goal.returns-clause-stems
