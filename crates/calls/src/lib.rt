@@ -76,6 +76,7 @@ pub fn run<M: Store>(
     ensures buffer { buffer.new
         ≡ buffered_all calls.now (new (means M.bytes M.takes memory) setup) buffer.old }
     ensures law { Law (new (means M.bytes M.takes memory) setup) calls.now }
+    ensures same_borrows { M.borrows result.memory ≡ M.borrows memory }
 {
     let mut chip = Chip::new(memory, setup);
     for call in calls {

@@ -1,4 +1,4 @@
-use Rattle.std.proofs.Common.{◌≡◌, ap₂}
+use Rattle.std.proofs.Common.{◌≡◌, ap, ap₂, ◌∙◌}
 use Rattle.std.proofs.lemmas.List.{drop_more, drop_all}
 use Rattle.wave.specs.Means.{means}
 use Rattle.chip.specs.Chip.{state}
@@ -12,7 +12,7 @@ pub loop-call-preserved : goal.loop-call-preserved
 loop-call-preserved g c =
     let p = c.perform.ensures in
     let before = rw (drop_more c.args.calls.now c.loop-call.call-index Reset c.loop-call-test.true) at c.loop-call.invariant in
-    (cc, cc, cc)
+    (cc, cc, cc, c.perform.ensures.same_borrows ∙ c.loop-call.invariant.3)
 
 pub returns : goal.returns
 returns g c =
@@ -20,4 +20,10 @@ returns g c =
     ap₂ {C = State} (λ r m. record { registers = r; memory = means g.M.Source.bytes g.M.Store.takes m })
     c.new-chip.ensures.registers c.new-chip.ensures.memory in
     let went = rw (drop_all c.loop-call.call-index c.args.calls.now c.loop-call-test.false, begun) at c.loop-call.invariant in
-    record { after = went.0; frame = went.1; buffer = went.2; law = law _ _ _ }
+    record {
+      after = went.0;
+      frame = went.1;
+      buffer = went.2;
+      law = law _ _ _;
+      same_borrows = c.loop-call.invariant.3 ∙ ap g.M.Store.borrows c.new-chip.ensures.memory;
+    }

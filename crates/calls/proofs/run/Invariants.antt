@@ -12,3 +12,4 @@ invariant-loop-call g l =
     (after_all rest now ≡ after_all l.calls before)
     × (framed_all rest now l.frame ≡ framed_all l.calls before l.initial.frame)
     × (buffered_all rest now l.buffer ≡ buffered_all l.calls before l.initial.buffer)
+    × (g.M.Store.borrows l.chip.memory ≡ g.M.Store.borrows l.initial.chip.memory)
