@@ -13,13 +13,22 @@ pub struct Order {
 }
 
 impl Order {
-    /// None where the arguments are no order.
+    /// None where the arguments are no order, which is then told.
     pub fn of_arguments() -> Option<Order> {
-        let mut arguments = env::args().skip(1);
+        let mut arguments = env::args();
+        let name = arguments.next().unwrap_or_default();
+        let order = Order::of_words(arguments);
+        if order.is_none() {
+            eprintln!("usage: {name} PROGRAM SEED COUNT");
+        }
+        order
+    }
+
+    fn of_words(mut words: impl Iterator<Item = String>) -> Option<Order> {
         Some(Order {
-            program: arguments.next()?,
-            seed: arguments.next()?.parse().ok()?,
-            count: arguments.next()?.parse().ok()?,
+            program: words.next()?,
+            seed: words.next()?.parse().ok()?,
+            count: words.next()?.parse().ok()?,
         })
     }
 }

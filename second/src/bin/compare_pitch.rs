@@ -18,23 +18,17 @@ fn line(tone: &Tone) -> String {
 }
 
 fn main() -> io::Result<ExitCode> {
-    let Some(Order {
-        program,
-        seed,
-        count,
-    }) = Order::of_arguments()
-    else {
-        eprintln!("usage: compare_pitch PROGRAM SEED COUNT");
+    let Some(order) = Order::of_arguments() else {
         return Ok(ExitCode::from(2));
     };
-    let mut dice = Dice::new(seed);
+    let mut dice = Dice::new(order.seed);
     let mut tones: Vec<Tone> = notes().iter().map(|note| note.tone()).collect();
-    tones.extend((0..count).map(|_| tone(&mut dice)));
+    tones.extend((0..order.count).map(|_| tone(&mut dice)));
     let input: String = tones
         .iter()
         .map(|tone| format!("{} {} {}\n", tone.frequency, tone.clock, tone.words))
         .collect();
-    let text = String::from_utf8_lossy(&printed(&program, input.as_bytes())?).into_owned();
+    let text = String::from_utf8_lossy(&printed(&order.program, input.as_bytes())?).into_owned();
     let lines: Vec<&str> = text.lines().collect();
     let mut outcomes = BTreeMap::new();
     for (k, tone) in tones.iter().enumerate() {

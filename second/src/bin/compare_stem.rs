@@ -18,24 +18,18 @@ fn ending(text: &str) -> String {
 }
 
 fn main() -> io::Result<ExitCode> {
-    let Some(Order {
-        program,
-        seed,
-        count,
-    }) = Order::of_arguments()
-    else {
-        eprintln!("usage: compare_stem PROGRAM SEED COUNT");
+    let Some(order) = Order::of_arguments() else {
         return Ok(ExitCode::from(2));
     };
-    let mut dice = Dice::new(seed);
+    let mut dice = Dice::new(order.seed);
     let mut endings = BTreeMap::new();
     let mut lines = 0;
-    for case in 0..count {
+    for case in 0..order.count {
         let input = stem_input(&mut dice, LONGEST_WAIT);
         let expected = stem::text(&input);
-        let text = printed(&program, &input)?;
+        let text = printed(&order.program, &input)?;
         if text != expected.as_bytes() {
-            println!("input {case} of seed {seed}: {input:02X?}");
+            println!("input {case} of seed {}: {input:02X?}", order.seed);
             println!("expected {expected:?}");
             println!("printed {:?}", String::from_utf8_lossy(&text));
             return Ok(ExitCode::FAILURE);
@@ -43,6 +37,9 @@ fn main() -> io::Result<ExitCode> {
         lines += expected.lines().count();
         *endings.entry(ending(&expected)).or_insert(0u32) += 1;
     }
-    println!("{count} inputs and {lines} lines were the same; they ended so: {endings:?}");
+    println!(
+        "{} inputs and {lines} lines were the same; they ended so: {endings:?}",
+        order.count
+    );
     Ok(ExitCode::SUCCESS)
 }
