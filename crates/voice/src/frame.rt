@@ -1,5 +1,5 @@
 // The frame of a tick: what eight voices contribute to each side, their total, and its word.
-ghost use Rattle.std.specs.Prelude.{◌≡◌, pos, negsuc, ◌+ℤ◌, ◌≤ℤ◌};
+ghost use Rattle.std.specs.Prelude.{◌≡◌};
 ghost use Rattle.voice.specs.Frame.{contributions, sum, limited, height, word, side, frame_of, sums, frame, totals};
 ghost use Rattle.voice.specs.Frame.{Ranged, AllBounded};
 
