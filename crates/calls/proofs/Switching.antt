@@ -6,9 +6,10 @@ use Rattle.voice.specs.Voice.{positions, step, position, onward, landing, sounde
 use Rattle.voice.specs.declared.voice.Voice.{Voice}
 use Rattle.chip.specs.Control.{bit}
 use Rattle.chip.specs.Port.{State}
+use Rattle.chip.specs.Registers.{stands}
 use Rattle.chip.specs.declared.registers.Setup.{Setup}
 use Rattle.calls.specs.Calls.{after, after_all}
-use Rattle.calls.specs.Law.{new, voice_of, found_on, granted, ReadsFrom, stands, Law}
+use Rattle.calls.specs.Law.{new, voice_of, found_on, granted, ReadsFrom, Law}
 use Rattle.calls.specs.declared.Call.{Call}
 use Rattle.calls.specs.declared.Call.TheVariants.{Tick}
 use Rattle.chip.proofs.Each.{each_at}

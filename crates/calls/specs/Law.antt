@@ -1,11 +1,11 @@
 -- What holds of a voice in every list of calls on a new chip.
 use Rattle.std.specs.Prelude.{◌≡◌, ℕ, ◌+◌, ◌%◌, ◌<◌, Bool, true, false, List, [], ◌∷◌, ◌++◌, length, ◌==◌, slice_index_or}
 use Rattle.wave.specs.Memory.{Memory}
-use Rattle.voice.specs.Voice.{fresh, silence, positions, step, start, position, landing, landed}
+use Rattle.voice.specs.Voice.{fresh, silence, positions, step, start, landing, landed}
 use Rattle.voice.specs.declared.voice.Voice.{Voice}
 use Rattle.chip.specs.declared.registers.Setup.{Setup}
 use Rattle.chip.specs.Control.{bit}
-use Rattle.chip.specs.Registers.{made, sounds}
+use Rattle.chip.specs.Registers.{made, stands, sounds}
 use Rattle.chip.specs.Port.{State, memory_size}
 use Rattle.calls.specs.Calls.{after, after_all}
 use Rattle.calls.specs.declared.Call.{Call}
@@ -60,10 +60,6 @@ ReadsFrom s k p =
     let bytes : List ℕ = s.memory.bytes in
     let v : Voice = voice_of s k in
     voice_of (after Tick s) k ≡ landed bytes v.settings (landing bytes v.settings p)
-
--- where a voice stands
-abbrev pub stands : Voice → ℕ
-stands v = position v.settings v.phase
 
 -- The calls are any, and so is where the ticks stand among them.
 pub record Law (s : State) (calls : List Call) : Type 0 where

@@ -1,9 +1,8 @@
 -- The header of a log: version, kind of chip, spare bits, clock.
 use Rattle.std.specs.Prelude.{ℕ, Bool, cond, ◌&&◌, List, [], ◌∷◌, length, Ok, Err, Result, ◌==◌, nat_le}
 use Rattle.kind.specs.Clocks.{clock_fits}
-use Rattle.kind.specs.Kinds.{kind_of}
+use Rattle.kind.specs.Kinds.{kind_of, bit_of}
 use Rattle.kind.specs.declared.Kind.{Kind}
-use Rattle.kind.specs.declared.Kind.TheVariants.{Rf5c68a, Rf5c164}
 use Rattle.register_log.specs.Fields.{field, Field}
 use Rattle.register_log.specs.declared.fault.Fault.{Fault}
 use Rattle.register_log.specs.declared.fault.Fault.TheVariants.{Length, Header as WrongField}
@@ -15,7 +14,7 @@ most = 16777216
 
 -- how many bytes a log may have
 abbrev pub length_fits : List ℕ → Bool
-length_fits log = nat_le 4 (length log) && nat_le (length log) 16777216
+length_fits log = nat_le 4 (length log) && nat_le (length log) most
 
 -- the place of the first record
 abbrev pub records_start : ℕ
@@ -41,8 +40,7 @@ abbrev pub header_fits : Header → Bool
 header_fits h = clock_fits h.kind h.clock
 
 abbrev pub kind_number : Kind → ℕ
-kind_number Rf5c68a = 0
-kind_number Rf5c164 = 1
+kind_number kind = cond (bit_of kind) 1 0
 
 -- the fields of a header: the version is 1, the spare bits are 0
 abbrev pub header_fields : Header → List Field
