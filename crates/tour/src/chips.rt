@@ -22,25 +22,23 @@ const FIRST_TICK: [Call; 8] = [
     Call::Tick,
 ];
 
-// The first tick of that voice, over a memory with the wave; at the last converter an inspection too.
-fn show_tick<M: Store + Drop>(rt: &HostRuntime, memory: M, converter: Converter) -> io::Result<()> {
+// A chip over a memory with the wave, once that voice has done its first tick, which fills the frame.
+fn first_tick<M: Store + Drop>(memory: M, converter: Converter, frame: &mut Frame) -> Chip<M> {
     let setup = Setup {
         kind: Kind::Rf5c68a,
         converter,
         mutes: 0,
     };
-    let mut frame = Frame::default();
-    let mut chip = run(memory, setup, &FIRST_TICK, &mut frame, &mut []);
+    run(memory, setup, &FIRST_TICK, frame, &mut [])
+}
+
+// What a tick sounds like.
+fn show_frame(rt: &HostRuntime, converter: Converter, frame: &Frame) -> io::Result<()> {
     let Frame { left, right } = frame;
     println!(rt;
         "played a voice: totals {} and {}, words of {} bits {} and {}",
         left.total, right.total, converter as u8, left.word, right.word
-    )?;
-    // a test of a value: a closure for one turn of three would say no more
-    if converter == Converter::Bits8 {
-        show_inspection(rt, &mut chip)?;
-    }
-    Ok(())
+    )
 }
 
 // Looks at the start of the wave while the chip sounds.
@@ -57,12 +55,18 @@ fn show_inspection<M: Store>(rt: &HostRuntime, chip: &mut Chip<M>) -> io::Result
 }
 
 pub fn show_chip(rt: &HostRuntime) -> io::Result<()> {
-    for converter in [Converter::Bits16, Converter::Bits10, Converter::Bits8] {
-        let mut bytes = vec![in rt.alloc(); 0u8; 65_536]?;
-        let mut ram = Ram::new(bytes.as_mut_slice());
-        if load(&mut ram, START, &TRIANGLE).is_ok() {
-            show_tick(rt, ram, converter)?;
-        }
+    let mut bytes = vec![in rt.alloc(); 0u8; 65_536]?;
+    let mut ram = Ram::new(bytes.as_mut_slice());
+    if load(&mut ram, START, &TRIANGLE).is_err() {
+        return println!(rt; "was refused a wave");
     }
-    Ok(())
+    let mut frame = Frame::default();
+    for converter in [Converter::Bits16, Converter::Bits10, Converter::Bits8] {
+        let ram = Ram::new(bytes.as_mut_slice());
+        let _ = first_tick(ram, converter, &mut frame);
+        show_frame(rt, converter, &frame)?;
+    }
+    let ram = Ram::new(bytes.as_mut_slice());
+    let mut chip = first_tick(ram, Converter::Bits16, &mut frame);
+    show_inspection(rt, &mut chip)
 }

@@ -69,8 +69,8 @@ fn play<A: Store, B: Store, C: Store>(
         session.try_calls(&[Call::Step]);
         match session.mix.answer {
             Some(Answer::Step(Ok(Progress::Ticked))) => {
-                say_totals(rt, "step", step, totals(session))?
-            },
+                say_totals(rt, "step", step, totals(session))?;
+            }
             Some(Answer::Step(Ok(Progress::Taken))) => {}
             _ => break,
         }
