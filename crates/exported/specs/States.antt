@@ -15,7 +15,7 @@ use Rattle.register_log.specs.Header.{kind_number}
 use Rattle.register_log.specs.declared.fault.Fault.{Fault as LogFault}
 use Rattle.register_log.specs.declared.fault.Fault.TheVariants.{Length, Header, Cut, Tag, Range, Padding}
 use Rattle.player.specs.Fault.{number, bit, address}
-use Rattle.player.specs.Step.{Stand}
+use Rattle.player.specs.Step.{Stand, standing}
 use Rattle.player.specs.declared.fault.Fault.{Fault}
 use Rattle.player.specs.declared.fault.Fault.TheVariants.{Log, Chip}
 use Rattle.player.specs.declared.player.State.{State}
@@ -132,7 +132,7 @@ state_of p =
     (cond (p.state == 2) (Ended p.bit) (Faulted (fault_of p))))
 
 abbrev pub stand_of : PlayerState → Stand
-stand_of p = record { place = p.place; state = state_of p }
+stand_of p = standing p.place (state_of p)
 
 -- the host address of a fault, if it has one
 abbrev pub address_of : Fault → Option ℕ

@@ -1,6 +1,6 @@
 // A chip's registers and a player's stand as numbers, which a caller keeps from one call to the next.
 ghost use Rattle.std.specs.Prelude.{◌≡◌, map};
-ghost use Rattle.player.specs.Step.{new};
+ghost use Rattle.player.specs.Step.{new, standing};
 ghost use Rattle.chip.specs.Registers.{made, reset, latest};
 ghost use Rattle.exported.specs.States.{converter_of, voice_of, saved_voice, setup_of, registers_of, saved_chip, chip_refusal_of, log_fault_of, address_of, fault_of, state_of, stand_of, saved_player, saved_stand, flag, side_contributions};
 ghost use Rattle.voice.specs.declared.stereo.SideName.TheVariants.{Left, Right};
@@ -251,7 +251,7 @@ impl PlayerState {
     #[tactic(auto, using(crate::proofs::Saved::player_loaded))]
     pub(crate) fn save(place: usize, state: State) -> PlayerState
         ensures saved { result ≡ saved_player place state }
-        ensures loaded { stand_of result ≡ record { place = place; state = state } }
+        ensures loaded { stand_of result ≡ standing place state }
     {
         let between = PlayerState {
             place,

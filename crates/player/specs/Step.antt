@@ -26,12 +26,15 @@ pub record Stand : Type 0 where
   pub place : ℕ
   pub state : State
 
+abbrev pub standing : ℕ → State → Stand
+standing place state = record { place = place; state = state }
+
 abbrev pub stand : Player → Stand
-stand p = record { place = p.reader.place; state = p.state }
+stand p = standing p.reader.place p.state
 
 -- a player that has taken no step stands before the header
 abbrev pub new : Stand
-new = record { place = 0; state = Between }
+new = standing 0 Between
 
 -- what a step leaves, and its answer
 pub record Stepped : Type 0 where
@@ -43,13 +46,13 @@ abbrev pub stepped : ChipState → Stand → Result Progress Fault → Stepped
 stepped c p answer = record { chip = c; player = p; answer = answer }
 
 abbrev pub went_on : ChipState → ℕ → Stepped
-went_on c place = record { chip = c; player = record { place = place; state = Between }; answer = Ok Taken }
+went_on c place = stepped c (standing place Between) (Ok Taken)
 
 abbrev pub ended : ChipState → ℕ → ℕ → Stepped
-ended c place bit = record { chip = c; player = record { place = place; state = Ended bit }; answer = Ok (AtEnd bit) }
+ended c place bit = stepped c (standing place (Ended bit)) (Ok (AtEnd bit))
 
 abbrev pub failed : ChipState → ℕ → Fault → Stepped
-failed c place fault = record { chip = c; player = record { place = place; state = Faulted fault }; answer = Err fault }
+failed c place fault = stepped c (standing place (Faulted fault)) (Err fault)
 
 -- what a step comes to, from its answer: a fault leaves the player faulted where it stands
 abbrev pub settled : ChipState → Stand → Result Progress Fault → Stepped
@@ -94,7 +97,7 @@ put_down (Err fault) place c = failed c place fault
 abbrev pub obeyed : ChipState → ℕ → ℕ → Entry → Stepped
 obeyed c bit place (register address byte) = put (byte ∷ []) address bit place c
 obeyed c bit place (window offset byte) = put (byte ∷ []) (window_start + offset) bit place c
-obeyed c bit place (wait ticks) = record { chip = c; player = record { place = place; state = Waiting bit ticks }; answer = Ok Taken }
+obeyed c bit place (wait ticks) = stepped c (standing place (Waiting bit ticks)) (Ok Taken)
 obeyed c bit place (block offset payload) = put payload (window_start + offset) bit place c
 
 abbrev pub taken : ChipState → ℕ → Result Found LogFault → Stepped
@@ -109,8 +112,7 @@ abbrev pub less_one : ℕ → ℕ → State
 less_one bit left = cond (nat_le left 1) Between (Waiting bit (left - 1))
 
 abbrev pub waited : ChipState → ℕ → ℕ → ℕ → Result Registers Refusal → Stepped
-waited c place bit left (Ok r) =
-    record { chip = with_registers c r; player = record { place = place; state = less_one bit left }; answer = Ok Ticked }
+waited c place bit left (Ok r) = stepped (with_registers c r) (standing place (less_one bit left)) (Ok Ticked)
 waited c place bit left (Err refusal) = failed c place (Chip refusal bit None)
 
 -- Steps

@@ -6,7 +6,7 @@ ghost use Rattle.chip.specs.Port.{State as ChipState, tick, filled};
 ghost use Rattle.register_log.specs.Header.{header};
 ghost use Rattle.register_log.specs.Record.{values, in_window};
 ghost use Rattle.player.specs.Left.{stops, left};
-ghost use Rattle.player.specs.Step.{stand, new, Stepped, stepped, settled, for_kind, opened, obeyed, waited, put, put_down, step, framed};
+ghost use Rattle.player.specs.Step.{standing, stand, new, Stepped, stepped, settled, for_kind, opened, obeyed, waited, put, put_down, step, framed};
 
 use crate::fault::Fault;
 use chip::chip::Chip;
@@ -64,7 +64,7 @@ impl<'a> Player<'a> {
     // A player that goes on from where another stood in the log, in bits, and from its state.
     pub fn resume(log: &'a [u8], place: usize, state: State) -> Player<'a>
         ensures log { result.reader.log.now ≡ log.now }
-        ensures stand { stand result ≡ record { place = place; state = state } }
+        ensures stand { stand result ≡ standing place state }
     {
         Player {
             reader: Reader { log, place },
