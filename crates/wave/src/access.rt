@@ -19,6 +19,7 @@ pub type Answer = Result<Option<u8>, Refusal>;
 pub fn perform<M: Store>(memory: &mut M, access: Access) -> Answer
     ensures answer { result ≡ answer (means M.bytes M.takes memory.old) access }
     ensures after { means M.bytes M.takes memory.new ≡ after (means M.bytes M.takes memory.old) access }
+    ensures same_borrows { M.borrows memory.new ≡ M.borrows memory.old }
 {
     match access {
         Access::Read(place) => memory.read(place).map(Some),
@@ -32,6 +33,8 @@ pub fn answer_alike<M: Store, N: Store>(first: &mut M, second: &mut N, accesses:
         result (means M.bytes M.takes first.new) (means N.bytes N.takes second.new) }
     ensures law { Alike (means M.bytes M.takes first.old) (means N.bytes N.takes second.old)
         → (result ≡ true) × (means M.bytes M.takes first.new ≡ means N.bytes N.takes second.new) }
+    ensures first_borrows { M.borrows first.new ≡ M.borrows first.old }
+    ensures second_borrows { N.borrows second.new ≡ N.borrows second.old }
 {
     // a loop: of what a closure borrows and changes a proof would know nothing
     let mut alike = true;
@@ -47,6 +50,8 @@ fn perform_both<M: Store, N: Store>(first: &mut M, second: &mut N, access: Acces
         ≡ answer (means N.bytes N.takes second.old) access) }
     ensures first { means M.bytes M.takes first.new ≡ after (means M.bytes M.takes first.old) access }
     ensures second { means N.bytes N.takes second.new ≡ after (means N.bytes N.takes second.old) access }
+    ensures first_borrows { M.borrows first.new ≡ M.borrows first.old }
+    ensures second_borrows { N.borrows second.new ≡ N.borrows second.old }
 {
     perform(first, access) == perform(second, access)
 }

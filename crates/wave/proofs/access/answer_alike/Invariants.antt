@@ -1,4 +1,4 @@
-use Rattle.std.proofs.Common.{take}
+use Rattle.std.proofs.Common.{◌≡◌, take}
 use Rattle.wave.specs.Means.{means}
 use Rattle.wave.specs.Access.{Compared}
 use Rattle.wave.proofs.access.answer_alike.Given as goal
@@ -12,3 +12,5 @@ invariant-loop-access g l =
     l.alike
     (means g.M.Source.bytes g.M.Store.takes l.first)
     (means g.N.Source.bytes g.N.Store.takes l.second)
+    × (g.M.Store.borrows l.first ≡ g.M.Store.borrows l.initial.first)
+    × (g.N.Store.borrows l.second ≡ g.N.Store.borrows l.initial.second)
