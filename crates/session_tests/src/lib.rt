@@ -4,6 +4,8 @@
 #[cfg(test)]
 mod divisions;
 #[cfg(test)]
+mod groups;
+#[cfg(test)]
 mod orders;
 #[cfg(test)]
 mod random;

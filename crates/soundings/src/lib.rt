@@ -192,13 +192,3 @@ fn fd(frequency: u32) -> Result<u16, Refusal>
     };
     tone.fd()
 }
-
-#[cfg(test)]
-mod tests {
-    use super::*;
-
-    #[test]
-    fn all_hold(rt: HostRuntime) {
-        assert!(rt; hold());
-    }
-}
