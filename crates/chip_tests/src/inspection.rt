@@ -12,8 +12,8 @@ use wave::ram::Ram;
 
 #[test]
 fn while_sounding(rt: HostRuntime) -> Result<(), Fail> {
-    let mut bytes = vec![in rt.alloc(); 0xC0u8; 65_536]?;
-    let ram = Ram::new(bytes.as_mut_slice());
+    let mut bytes = [0xC0; 65_536];
+    let ram = Ram::new(&mut bytes);
     let mut chip = Chip::new(ram, RF5C68A);
     let samples = [(7, 0x82), (0x1010, 1), (0x1011, 2), (0x1012, 3)];
     write_all(&mut chip, &samples)?;
@@ -47,8 +47,8 @@ fn check_inspection<M: Store>(
 
 #[test]
 fn of_one_bank_alone(rt: HostRuntime) -> Result<(), Fail> {
-    let mut bytes = vec![in rt.alloc(); 0u8; 65_536]?;
-    let ram = Ram::new(bytes.as_mut_slice());
+    let mut bytes = [0; 65_536];
+    let ram = Ram::new(&mut bytes);
     let mut chip = Chip::new(ram, RF5C68A);
     write_all(&mut chip, &[(7, 3), (0x1FFE, 0xAB), (0x1FFF, 0xAB)])?;
     for bank in 0..16u8 {
@@ -97,8 +97,8 @@ fn check_reaches<M: Store>(
 
 #[test]
 fn each_reach(rt: HostRuntime) -> Result<(), Fail> {
-    let mut bytes = vec![in rt.alloc(); 0x40u8; 65_536]?;
-    let ram = Ram::new(bytes.as_mut_slice());
+    let mut bytes = [0x40; 65_536];
+    let ram = Ram::new(&mut bytes);
     let mut chip = Chip::new(ram, RF5C68A);
     for (control, read) in [(0x8F, Err(Refusal::Sounding)), (0x0F, Ok(Byte(0x40)))] {
         write_all(&mut chip, &[(7, control)])?;
@@ -111,7 +111,7 @@ fn each_reach(rt: HostRuntime) -> Result<(), Fail> {
 fn over_a_memory_of_another_size(rt: HostRuntime) -> Result<(), Fail> {
     for size in [0, 65_535, 65_537] {
         let mut bytes = vec![in rt.alloc(); 0x40u8; size]?;
-        let ram = Ram::new(bytes.as_mut_slice());
+        let ram = Ram::new(&mut bytes);
         let mut chip = Chip::new(ram, RF5C68A);
         for offset in [0, 4_095, 4_096, 0xFFFF] {
             check_inspection(

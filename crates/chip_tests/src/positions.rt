@@ -8,8 +8,8 @@ use wave::ram::Ram;
 
 #[test]
 fn starts_at_rest(rt: HostRuntime) -> Result<(), Fail> {
-    let mut bytes = vec![in rt.alloc(); 0u8; 65_536]?;
-    let ram = Ram::new(bytes.as_mut_slice());
+    let mut bytes = [0; 65_536];
+    let ram = Ram::new(&mut bytes);
     let mut chip = Chip::new(ram, RF5C164);
     for voice in 0..8u8 {
         write_all(&mut chip, &[(7, voice | 0x40), (6, voice | 0x10)])?;
@@ -27,8 +27,8 @@ fn starts_at_rest(rt: HostRuntime) -> Result<(), Fail> {
 
 #[test]
 fn three_places_a_tick(rt: HostRuntime) -> Result<(), Fail> {
-    let mut bytes = vec![in rt.alloc(); 0u8; 65_536]?;
-    let ram = Ram::new(bytes.as_mut_slice());
+    let mut bytes = [0; 65_536];
+    let ram = Ram::new(&mut bytes);
     let mut chip = Chip::new(ram, RF5C164);
     write_all(&mut chip, &[(7, 0xC2), (6, 0x12), (3, 0x18), (8, 0xFB)])?;
     for low in [0x00, 0x03, 0x06, 0x09] {
@@ -45,8 +45,8 @@ fn three_places_a_tick(rt: HostRuntime) -> Result<(), Fail> {
 
 #[test]
 fn parts_of_a_place(rt: HostRuntime) -> Result<(), Fail> {
-    let mut bytes = vec![in rt.alloc(); 0u8; 65_536]?;
-    let ram = Ram::new(bytes.as_mut_slice());
+    let mut bytes = [0; 65_536];
+    let ram = Ram::new(&mut bytes);
     let mut chip = Chip::new(ram, RF5C164);
     write_all(&mut chip, &[(3, 0x05), (2, 0x56), (8, 0xFE), (7, 0x80)])?;
     for low in [0, 0, 1, 2, 2, 3, 4] {
@@ -59,8 +59,8 @@ fn parts_of_a_place(rt: HostRuntime) -> Result<(), Fail> {
 // From FFFFH on to 1FH.
 #[test]
 fn round_the_end(rt: HostRuntime) -> Result<(), Fail> {
-    let mut bytes = vec![in rt.alloc(); 0u8; 65_536]?;
-    let ram = Ram::new(bytes.as_mut_slice());
+    let mut bytes = [0; 65_536];
+    let ram = Ram::new(&mut bytes);
     let mut chip = Chip::new(ram, RF5C164);
     let settings = [(6, 0xFF), (3, 0xFF), (2, 0xFF), (8, 0xFE), (7, 0x80)];
     write_all(&mut chip, &settings)?;

@@ -19,7 +19,7 @@ use wave::rom::Rom;
 fn memory_of_another_size(rt: HostRuntime) -> Result<(), Fail> {
     for size in [0, 65_535, 65_537] {
         let mut bytes = vec![in rt.alloc(); 0u8; size]?;
-        let ram = Ram::new(bytes.as_mut_slice());
+        let ram = Ram::new(&mut bytes);
         let mut chip = Chip::new(ram, RF5C164);
         let calls = [
             Write(0, 1),
@@ -38,21 +38,20 @@ fn memory_of_another_size(rt: HostRuntime) -> Result<(), Fail> {
 }
 
 #[test]
-fn refused_tick(rt: HostRuntime) -> Result<(), Fail> {
-    let mut bytes = vec![in rt.alloc(); 0xC0u8; 65_535]?;
-    let ram = Ram::new(bytes.as_mut_slice());
+fn refused_tick(rt: HostRuntime) {
+    let mut bytes = [0xC0; 65_535];
+    let ram = Ram::new(&mut bytes);
     let mut chip = Chip::new(ram, RF5C68A);
     let mut frame = UNFILLED;
     assert_eq!(rt; chip.tick(&mut frame), Err(Refusal::MemorySize));
     assert_eq!(rt; frame, UNFILLED);
     assert_eq!(rt; chip.contributions(), SILENT);
-    Ok(())
 }
 
 #[test]
-fn beyond_the_port(rt: HostRuntime) -> Result<(), Fail> {
-    let mut bytes = vec![in rt.alloc(); 0u8; 65_536]?;
-    let ram = Ram::new(bytes.as_mut_slice());
+fn beyond_the_port(rt: HostRuntime) {
+    let mut bytes = [0; 65_536];
+    let ram = Ram::new(&mut bytes);
     let mut chip = Chip::new(ram, RF5C164);
     for control in [0x00, 0x80] {
         check_alike(&rt, &mut chip, &[Write(7, control)], Ok(Done));
@@ -64,7 +63,6 @@ fn beyond_the_port(rt: HostRuntime) -> Result<(), Fail> {
         ];
         check_alike(&rt, &mut chip, &calls, Err(Refusal::BeyondPort));
     }
-    Ok(())
 }
 
 // A call at each of some addresses; a list of calls and answers would have to be made first.
@@ -83,10 +81,10 @@ fn check_each<M: Store, F: Fn(u16) -> Call>(
 }
 
 #[test]
-fn nothing_there(rt: HostRuntime) -> Result<(), Fail> {
-    let mut bytes = vec![in rt.alloc(); 0u8; 65_536]?;
+fn nothing_there(rt: HostRuntime) {
+    let mut bytes = [0; 65_536];
     for setup in [RF5C68A, RF5C164] {
-        let ram = Ram::new(bytes.as_mut_slice());
+        let ram = Ram::new(&mut bytes);
         let mut chip = Chip::new(ram, setup);
         let nothing = Err(Refusal::NothingThere);
         check_each(
@@ -99,27 +97,25 @@ fn nothing_there(rt: HostRuntime) -> Result<(), Fail> {
         check_each(&rt, &mut chip, 0x0..0x10, Read, nothing);
         check_each(&rt, &mut chip, 0x20..0x1000, Read, nothing);
     }
-    Ok(())
 }
 
 #[test]
-fn positions_of_one_kind_alone(rt: HostRuntime) -> Result<(), Fail> {
-    let mut bytes = vec![in rt.alloc(); 0u8; 65_536]?;
+fn positions_of_one_kind_alone(rt: HostRuntime) {
+    let mut bytes = [0; 65_536];
     for (setup, answer) in [
         (RF5C68A, Err(Refusal::NothingThere)),
         (RF5C164, Ok(Byte(0))),
     ] {
-        let ram = Ram::new(bytes.as_mut_slice());
+        let ram = Ram::new(&mut bytes);
         let mut chip = Chip::new(ram, setup);
         check_each(&rt, &mut chip, 0x10..0x20, Read, answer);
     }
-    Ok(())
 }
 
 #[test]
-fn while_sounding(rt: HostRuntime) -> Result<(), Fail> {
-    let mut bytes = vec![in rt.alloc(); 0x40u8; 65_536]?;
-    let ram = Ram::new(bytes.as_mut_slice());
+fn while_sounding(rt: HostRuntime) {
+    let mut bytes = [0x40; 65_536];
+    let ram = Ram::new(&mut bytes);
     let mut chip = Chip::new(ram, RF5C164);
     check_calls(
         &rt,
@@ -137,16 +133,15 @@ fn while_sounding(rt: HostRuntime) -> Result<(), Fail> {
             (Read(0x1000), Ok(Byte(0x41))),
         ],
     );
-    Ok(())
 }
 
 #[test]
-fn rom_behind_the_window(rt: HostRuntime) -> Result<(), Fail> {
-    let rom = vec![in rt.alloc(); 0x11u8; 32_768]?;
-    let mut ram = vec![in rt.alloc(); 0x22u8; 32_768]?;
+fn rom_behind_the_window(rt: HostRuntime) {
+    let rom = [0x11; 32_768];
+    let mut ram = [0x22; 32_768];
     let board = Board {
-        first: Rom::new(rom.as_slice()),
-        second: Ram::new(ram.as_mut_slice()),
+        first: Rom::new(&rom),
+        second: Ram::new(&mut ram),
     };
     let mut chip = Chip::new(board, RF5C68A);
     let calls = [
@@ -163,7 +158,6 @@ fn rom_behind_the_window(rt: HostRuntime) -> Result<(), Fail> {
         (Read(0x1FFF), Ok(Byte(0x11))),
     ];
     check_calls(&rt, &mut chip, &calls);
-    Ok(())
 }
 
 #[test]

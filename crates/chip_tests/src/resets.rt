@@ -45,19 +45,18 @@ const MUTED: Setup = Setup {
 };
 
 #[test]
-fn new_chip(rt: HostRuntime) -> Result<(), Fail> {
-    let mut bytes = vec![in rt.alloc(); 0xC0u8; 65_536]?;
-    let ram = Ram::new(bytes.as_mut_slice());
+fn new_chip(rt: HostRuntime) {
+    let mut bytes = [0xC0; 65_536];
+    let ram = Ram::new(&mut bytes);
     let mut chip = Chip::new(ram, RF5C164);
     assert_eq!(rt; chip.contributions(), SILENT);
     check_calls(&rt, &mut chip, &AS_NEW);
-    Ok(())
 }
 
 #[test]
 fn registers_as_new(rt: HostRuntime) -> Result<(), Fail> {
-    let mut bytes = vec![in rt.alloc(); 0u8; 65_536]?;
-    let ram = Ram::new(bytes.as_mut_slice());
+    let mut bytes = [0; 65_536];
+    let ram = Ram::new(&mut bytes);
     let mut chip = Chip::new(ram, MUTED);
     sound(&rt, &mut chip)?;
     let mut heard = SILENT;
@@ -74,8 +73,8 @@ fn registers_as_new(rt: HostRuntime) -> Result<(), Fail> {
 
 #[test]
 fn voices_as_new(rt: HostRuntime) -> Result<(), Fail> {
-    let mut bytes = vec![in rt.alloc(); 0u8; 65_536]?;
-    let ram = Ram::new(bytes.as_mut_slice());
+    let mut bytes = [0; 65_536];
+    let ram = Ram::new(&mut bytes);
     let mut chip = Chip::new(ram, MUTED);
     sound(&rt, &mut chip)?;
     let calls = [
@@ -96,8 +95,8 @@ fn voices_as_new(rt: HostRuntime) -> Result<(), Fail> {
 
 #[test]
 fn memory_and_converter_kept(rt: HostRuntime) -> Result<(), Fail> {
-    let mut bytes = vec![in rt.alloc(); 0u8; 65_536]?;
-    let ram = Ram::new(bytes.as_mut_slice());
+    let mut bytes = [0; 65_536];
+    let ram = Ram::new(&mut bytes);
     let mut chip = Chip::new(ram, MUTED);
     sound(&rt, &mut chip)?;
     chip.reset();

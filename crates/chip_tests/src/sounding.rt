@@ -13,8 +13,8 @@ use wave::ram::Ram;
 
 #[test]
 fn one_voice(rt: HostRuntime) -> Result<(), Fail> {
-    let mut bytes = vec![in rt.alloc(); 0xC0u8; 65_536]?;
-    let ram = Ram::new(bytes.as_mut_slice());
+    let mut bytes = [0xC0; 65_536];
+    let ram = Ram::new(&mut bytes);
     let mut chip = Chip::new(ram, RF5C68A);
     write_all(&mut chip, &[(7, 0xC2), (0, 128), (1, 0x12), (8, 0xFB)])?;
     let frame = next_frame(&mut chip)?;
@@ -43,8 +43,8 @@ fn set_up_loud<M: Store>(chip: &mut Chip<M>) -> Result<(), Fail> {
 
 #[test]
 fn totals_of_loud_voices(rt: HostRuntime) -> Result<(), Fail> {
-    let mut bytes = vec![in rt.alloc(); 0u8; 65_536]?;
-    let ram = Ram::new(bytes.as_mut_slice());
+    let mut bytes = [0; 65_536];
+    let ram = Ram::new(&mut bytes);
     let mut chip = Chip::new(ram, RF5C68A);
     set_up_loud(&mut chip)?;
     let totals = [
@@ -105,9 +105,9 @@ const WORDS: [(Converter, [(u8, u16); 5]); 3] = [
 
 #[test]
 fn words_of_loud_voices(rt: HostRuntime) -> Result<(), Fail> {
-    let mut bytes = vec![in rt.alloc(); 0u8; 65_536]?;
+    let mut bytes = [0; 65_536];
     for (converter, words) in WORDS {
-        let ram = Ram::new(bytes.as_mut_slice());
+        let ram = Ram::new(&mut bytes);
         let setup = Setup {
             converter,
             ..RF5C164
@@ -120,8 +120,8 @@ fn words_of_loud_voices(rt: HostRuntime) -> Result<(), Fail> {
 // FFH at 0000H, then a loop of 0203H and 0204H that ends with FFH at 0205H.
 #[test]
 fn stop_bytes(rt: HostRuntime) -> Result<(), Fail> {
-    let mut bytes = vec![in rt.alloc(); 0u8; 65_536]?;
-    let ram = Ram::new(bytes.as_mut_slice());
+    let mut bytes = [0; 65_536];
+    let ram = Ram::new(&mut bytes);
     let mut chip = Chip::new(ram, RF5C164);
     let samples = [
         (0x1000, 0xFF),
@@ -148,8 +148,8 @@ fn stop_bytes(rt: HostRuntime) -> Result<(), Fail> {
 
 #[test]
 fn stop_byte_at_the_loop_start(rt: HostRuntime) -> Result<(), Fail> {
-    let mut bytes = vec![in rt.alloc(); 0xFFu8; 65_536]?;
-    let ram = Ram::new(bytes.as_mut_slice());
+    let mut bytes = [0xFF; 65_536];
+    let ram = Ram::new(&mut bytes);
     let mut chip = Chip::new(ram, RF5C164);
     let settings = [
         (0, 128),

@@ -51,16 +51,16 @@ fn check_switch<M: Store>(
 
 #[test]
 fn by_the_channel_register(rt: HostRuntime) -> Result<(), Fail> {
-    let mut bytes = vec![in rt.alloc(); 0u8; 65_536]?;
-    let ram = Ram::new(bytes.as_mut_slice());
+    let mut bytes = [0; 65_536];
+    let ram = Ram::new(&mut bytes);
     let mut chip = Chip::new(ram, RF5C164);
     check_switch(&rt, &mut chip, Write(8, 0xFF), Write(8, 0xFE))
 }
 
 #[test]
 fn by_the_control_byte(rt: HostRuntime) -> Result<(), Fail> {
-    let mut bytes = vec![in rt.alloc(); 0u8; 65_536]?;
-    let ram = Ram::new(bytes.as_mut_slice());
+    let mut bytes = [0; 65_536];
+    let ram = Ram::new(&mut bytes);
     let mut chip = Chip::new(ram, RF5C164);
     check_switch(&rt, &mut chip, Write(7, 0x00), Write(7, 0x80))
 }
@@ -68,8 +68,8 @@ fn by_the_control_byte(rt: HostRuntime) -> Result<(), Fail> {
 // A new start counts for a voice at rest alone.
 #[test]
 fn start_while_sounding(rt: HostRuntime) -> Result<(), Fail> {
-    let mut bytes = vec![in rt.alloc(); 0u8; 65_536]?;
-    let ram = Ram::new(bytes.as_mut_slice());
+    let mut bytes = [0; 65_536];
+    let ram = Ram::new(&mut bytes);
     let mut chip = Chip::new(ram, RF5C164);
     write_all(&mut chip, &[(3, 0x08), (6, 1), (8, 0xFE), (7, 0x80)])?;
     let calls = [
@@ -113,9 +113,9 @@ const ROUND: [(Call, Answer); 21] = [
 ];
 
 #[test]
-fn muted_voice(rt: HostRuntime) -> Result<(), Fail> {
-    let mut bytes = vec![in rt.alloc(); 0xC0u8; 65_536]?;
-    let ram = Ram::new(bytes.as_mut_slice());
+fn muted_voice(rt: HostRuntime) {
+    let mut bytes = [0xC0; 65_536];
+    let ram = Ram::new(&mut bytes);
     let mut chip = Chip::new(
         ram,
         Setup {
@@ -127,14 +127,13 @@ fn muted_voice(rt: HostRuntime) -> Result<(), Fail> {
         check_calls(&rt, &mut chip, &ROUND);
         check_calls(&rt, &mut chip, &[(Reset, Ok(Done))]);
     }
-    Ok(())
 }
 
 // Each voice has a level of its own: voice 8 gives 92 and 46.
 #[test]
 fn all_muted_but_the_last(rt: HostRuntime) -> Result<(), Fail> {
-    let mut bytes = vec![in rt.alloc(); 0xC0u8; 65_536]?;
-    let ram = Ram::new(bytes.as_mut_slice());
+    let mut bytes = [0xC0; 65_536];
+    let ram = Ram::new(&mut bytes);
     let mut chip = Chip::new(
         ram,
         Setup {

@@ -8,8 +8,8 @@ use wave::ram::Ram;
 
 #[test]
 fn third_bank(rt: HostRuntime) -> Result<(), Fail> {
-    let mut bytes = vec![in rt.alloc(); 0u8; 65_536]?;
-    let ram = Ram::new(bytes.as_mut_slice());
+    let mut bytes = [0; 65_536];
+    let ram = Ram::new(&mut bytes);
     let mut chip = Chip::new(ram, RF5C68A);
     write_all(&mut chip, &[(7, 3), (0x1234, 0xAB)])?;
     for bank in 0..16u8 {
@@ -28,8 +28,8 @@ fn third_bank(rt: HostRuntime) -> Result<(), Fail> {
 
 #[test]
 fn each_bank(rt: HostRuntime) -> Result<(), Fail> {
-    let mut bytes = vec![in rt.alloc(); 0u8; 65_536]?;
-    let ram = Ram::new(bytes.as_mut_slice());
+    let mut bytes = [0; 65_536];
+    let ram = Ram::new(&mut bytes);
     let mut chip = Chip::new(ram, RF5C68A);
     for bank in 0..16u8 {
         let ends = [
@@ -53,9 +53,9 @@ fn each_bank(rt: HostRuntime) -> Result<(), Fail> {
 
 // A control byte sets the bank or selects a voice; bits 5 and 4 mean nothing.
 #[test]
-fn banks_and_selected_voices(rt: HostRuntime) -> Result<(), Fail> {
-    let mut bytes = vec![in rt.alloc(); 0u8; 65_536]?;
-    let ram = Ram::new(bytes.as_mut_slice());
+fn banks_and_selected_voices(rt: HostRuntime) {
+    let mut bytes = [0; 65_536];
+    let ram = Ram::new(&mut bytes);
     let mut chip = Chip::new(ram, RF5C164);
     let calls = [
         (Write(7, 0x05), Ok(Done)),
@@ -70,5 +70,4 @@ fn banks_and_selected_voices(rt: HostRuntime) -> Result<(), Fail> {
         (Read(0x1000), Ok(Byte(0x33))),
     ];
     check_calls(&rt, &mut chip, &calls);
-    Ok(())
 }

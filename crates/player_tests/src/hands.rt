@@ -29,12 +29,12 @@ const END: usize = 160;
 
 #[test]
 fn records_on_two_chips(rt: HostRuntime) -> Result<(), Fail> {
-    let mut bytes = vec![in rt.alloc(); 0u8; 65_536]?;
-    let mut other_bytes = vec![in rt.alloc(); 0u8; 65_536]?;
+    let mut bytes = [0; 65_536];
+    let mut other_bytes = [0; 65_536];
     let records = [window(0, 1), window(1, 2), window(2, 3), window(3, 4)];
     let log = recorded(rt.alloc(), Kind::Rf5c68a, &records)?;
-    let mut chip = Chip::new(Ram::new(bytes.as_mut_slice()), RF5C68A);
-    let mut other = Chip::new(Ram::new(other_bytes.as_mut_slice()), RF5C68A);
+    let mut chip = Chip::new(Ram::new(&mut bytes), RF5C68A);
+    let mut other = Chip::new(Ram::new(&mut other_bytes), RF5C68A);
     let mut player = Player::new(log.as_slice());
     check_steps(&rt, &mut player, &mut chip, &[TAKEN, TAKEN]);
     check_steps(&rt, &mut player, &mut other, &[TAKEN, TAKEN]);
@@ -53,11 +53,11 @@ fn records_on_two_chips(rt: HostRuntime) -> Result<(), Fail> {
 // The ticks of one wait: a voice that is off on one chip is heard on the other.
 #[test]
 fn ticks_on_two_chips(rt: HostRuntime) -> Result<(), Fail> {
-    let mut bytes = vec![in rt.alloc(); 0xC0u8; 65_536]?;
-    let mut other_bytes = vec![in rt.alloc(); 0xC0u8; 65_536]?;
+    let mut bytes = [0xC0; 65_536];
+    let mut other_bytes = [0xC0; 65_536];
     let log = recorded(rt.alloc(), Kind::Rf5c164, &sound())?;
-    let mut chip = Chip::new(Ram::new(bytes.as_mut_slice()), RF5C164);
-    let mut other = Chip::new(Ram::new(other_bytes.as_mut_slice()), RF5C68A);
+    let mut chip = Chip::new(Ram::new(&mut bytes), RF5C164);
+    let mut other = Chip::new(Ram::new(&mut other_bytes), RF5C68A);
     let mut player = Player::new(log.as_slice());
     check_steps(&rt, &mut player, &mut chip, &[TAKEN; 7]);
     check_steps(&rt, &mut player, &mut chip, &[totals(512, 256)]);
@@ -77,9 +77,9 @@ fn ticks_on_two_chips(rt: HostRuntime) -> Result<(), Fail> {
 
 #[test]
 fn reset_in_a_wait(rt: HostRuntime) -> Result<(), Fail> {
-    let mut bytes = vec![in rt.alloc(); 0xC0u8; 65_536]?;
+    let mut bytes = [0xC0; 65_536];
     let log = recorded(rt.alloc(), Kind::Rf5c164, &sound())?;
-    let mut chip = Chip::new(Ram::new(bytes.as_mut_slice()), RF5C164);
+    let mut chip = Chip::new(Ram::new(&mut bytes), RF5C164);
     let mut player = Player::new(log.as_slice());
     check_steps(&rt, &mut player, &mut chip, &[TAKEN; 7]);
     check_steps(&rt, &mut player, &mut chip, &[totals(512, 256)]);
@@ -102,9 +102,9 @@ fn reset_in_a_wait(rt: HostRuntime) -> Result<(), Fail> {
 
 #[test]
 fn written_in_a_wait(rt: HostRuntime) -> Result<(), Fail> {
-    let mut bytes = vec![in rt.alloc(); 0xC0u8; 65_536]?;
+    let mut bytes = [0xC0; 65_536];
     let log = recorded(rt.alloc(), Kind::Rf5c164, &sound())?;
-    let mut chip = Chip::new(Ram::new(bytes.as_mut_slice()), RF5C164);
+    let mut chip = Chip::new(Ram::new(&mut bytes), RF5C164);
     let mut player = Player::new(log.as_slice());
     check_steps(&rt, &mut player, &mut chip, &[TAKEN; 7]);
     for (channel, answer) in [
@@ -128,11 +128,11 @@ fn written_in_a_wait(rt: HostRuntime) -> Result<(), Fail> {
 fn kind_at_the_first_step(rt: HostRuntime) -> Result<(), Fail> {
     let list = [register(6, 0x12), wait(1), window(0, 7)];
     for (setup, other_setup) in [(RF5C68A, RF5C164), (RF5C164, RF5C68A)] {
-        let mut bytes = vec![in rt.alloc(); 0u8; 65_536]?;
-        let mut other_bytes = vec![in rt.alloc(); 0u8; 65_536]?;
+        let mut bytes = [0; 65_536];
+        let mut other_bytes = [0; 65_536];
         let log = recorded(rt.alloc(), setup.kind, &list)?;
-        let mut chip = Chip::new(Ram::new(bytes.as_mut_slice()), setup);
-        let mut other = Chip::new(Ram::new(other_bytes.as_mut_slice()), other_setup);
+        let mut chip = Chip::new(Ram::new(&mut bytes), setup);
+        let mut other = Chip::new(Ram::new(&mut other_bytes), other_setup);
         let mut player = Player::new(log.as_slice());
         check_steps(&rt, &mut player, &mut chip, &[TAKEN]);
         let rest = [TAKEN, TAKEN, totals(0, 0), TAKEN, Ok(Seen::Ended(89))];
@@ -146,12 +146,12 @@ fn kind_at_the_first_step(rt: HostRuntime) -> Result<(), Fail> {
 // A header that was refused stays so on a chip of its kind, for a player that has met the other one.
 #[test]
 fn kind_refused_at_the_first_step(rt: HostRuntime) -> Result<(), Fail> {
-    let mut bytes = vec![in rt.alloc(); 0u8; 65_536]?;
-    let mut other_bytes = vec![in rt.alloc(); 0u8; 65_536]?;
+    let mut bytes = [0; 65_536];
+    let mut other_bytes = [0; 65_536];
     for (setup, other_setup) in [(RF5C68A, RF5C164), (RF5C164, RF5C68A)] {
         let log = recorded(rt.alloc(), setup.kind, &[window(0, 7)])?;
-        let mut chip = Chip::new(Ram::new(bytes.as_mut_slice()), setup);
-        let mut other = Chip::new(Ram::new(other_bytes.as_mut_slice()), other_setup);
+        let mut chip = Chip::new(Ram::new(&mut bytes), setup);
+        let mut other = Chip::new(Ram::new(&mut other_bytes), other_setup);
         let mut player = Player::new(log.as_slice());
         let wrong = Err(Told(8, "log", 0, 0));
         check_steps(&rt, &mut player, &mut other, &[wrong]);

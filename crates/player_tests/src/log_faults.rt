@@ -49,29 +49,28 @@ const HEADERS: [(&[u8], Setup, Answer); 29] = [
 ];
 
 #[test]
-fn headers(rt: HostRuntime) -> Result<(), Fail> {
-    let mut bytes = vec![in rt.alloc(); 0u8; 65_536]?;
+fn headers(rt: HostRuntime) {
+    let mut bytes = [0; 65_536];
     for (log, setup, answer) in HEADERS {
-        let mut chip = Chip::new(Ram::new(bytes.as_mut_slice()), setup);
+        let mut chip = Chip::new(Ram::new(&mut bytes), setup);
         let mut player = Player::new(log);
         assert_eq!(rt; step(&rt, &mut player, &mut chip), answer);
         if answer != TAKEN {
             check_steps(&rt, &mut player, &mut chip, &[answer; 3]);
         }
     }
-    Ok(())
 }
 
 // Bytes 10H again and again: a right header, and behind it the end with a padding bit set.
 #[test]
 fn longest_log(rt: HostRuntime) -> Result<(), Fail> {
-    let mut bytes = vec![in rt.alloc(); 0u8; 65_536]?;
+    let mut bytes = [0; 65_536];
     let log = vec![in rt.alloc(); 0x10u8; 16_777_217]?;
     for (length, steps, stop) in [
         (16_777_216, 1, Err(Told(12, "log", 32, 0))),
         (16_777_217, 0, WRONG_LENGTH),
     ] {
-        let mut chip = Chip::new(Ram::new(bytes.as_mut_slice()), RF5C68A);
+        let mut chip = Chip::new(Ram::new(&mut bytes), RF5C68A);
         let mut player = Player::new(log.get(..length).unwrap_or(&[]));
         let count = check_stop(&rt, &mut player, &mut chip, stop);
         assert_eq!(rt; count, steps);
@@ -84,12 +83,12 @@ type Case = (u8, usize, &'static [Field]);
 
 // A chip over bytes 0 plays up to the fault, and none of them changes.
 fn check_cases(rt: &impl Abort, heap: Global, cases: &[Case]) -> Result<(), Fail> {
-    let mut bytes = vec![in heap; 0u8; 65_536]?;
+    let mut bytes = [0; 65_536];
     for (number, bit, fields) in cases {
         let mut all = vec![in heap; HEADER]?;
         all.extend_from_slice(fields)?;
         let log = log_of(heap, all.as_slice())?;
-        let mut chip = Chip::new(Ram::new(bytes.as_mut_slice()), RF5C68A);
+        let mut chip = Chip::new(Ram::new(&mut bytes), RF5C68A);
         let mut player = Player::new(log.as_slice());
         let stop = Err(Told(*number, "log", *bit, 0));
         let _ = check_stop(rt, &mut player, &mut chip, stop);
@@ -207,10 +206,10 @@ fn check_tail(rt: &impl Abort, heap: Global, number: u8, tail: &[Field]) -> Resu
     let mut fields = vec![in heap; BEFORE[0], BEFORE[1], BEFORE[2], BEFORE[3]]?;
     fields.extend_from_slice(tail)?;
     let log = log_of(heap, fields.as_slice())?;
-    let mut bytes = vec![in heap; 0x40u8; 65_536]?;
-    let mut other_bytes = vec![in heap; 0x40u8; 65_536]?;
-    let mut chip = Chip::new(Ram::new(bytes.as_mut_slice()), RF5C164);
-    let mut other = Chip::new(Ram::new(other_bytes.as_mut_slice()), RF5C164);
+    let mut bytes = [0x40; 65_536];
+    let mut other_bytes = [0x40; 65_536];
+    let mut chip = Chip::new(Ram::new(&mut bytes), RF5C164);
+    let mut other = Chip::new(Ram::new(&mut other_bytes), RF5C164);
     let mut player = Player::new(log.as_slice());
     let count = check_stop(rt, &mut player, &mut chip, Err(Told(number, "log", 85, 0)));
     assert_eq!(rt; count, 4);

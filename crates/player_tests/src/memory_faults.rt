@@ -57,19 +57,19 @@ fn memory_of_another_size(rt: HostRuntime) -> Result<(), Fail> {
 // Behind a register and a wait that were played on a chip over a memory of the right size.
 #[test]
 fn later_on_a_memory_of_another_size(rt: HostRuntime) -> Result<(), Fail> {
-    let mut bytes = vec![in rt.alloc(); 0u8; 65_536]?;
-    let mut short = vec![in rt.alloc(); 0u8; 65_535]?;
+    let mut bytes = [0; 65_536];
+    let mut short = [0; 65_535];
     for (record, address) in refused() {
         let log = recorded(
             rt.alloc(),
             Kind::Rf5c68a,
             &[register(0, 1), wait(1), record],
         )?;
-        let mut chip = Chip::new(Ram::new(bytes.as_mut_slice()), RF5C68A);
+        let mut chip = Chip::new(Ram::new(&mut bytes), RF5C68A);
         let mut player = Player::new(log.as_slice());
         let before = [TAKEN, TAKEN, TAKEN, totals(0, 0)];
         check_steps(&rt, &mut player, &mut chip, &before);
-        let mut other = Chip::new(Ram::new(short.as_mut_slice()), RF5C68A);
+        let mut other = Chip::new(Ram::new(&mut short), RF5C68A);
         let stop = Err(Told(1, "chip", 66, address));
         let _ = check_stop(&rt, &mut player, &mut other, stop);
         // also on the first chip again
@@ -81,11 +81,11 @@ fn later_on_a_memory_of_another_size(rt: HostRuntime) -> Result<(), Fail> {
 // The bit is that of the wait, though the player stands behind it.
 #[test]
 fn last_tick_of_a_wait(rt: HostRuntime) -> Result<(), Fail> {
-    let mut bytes = vec![in rt.alloc(); 0u8; 65_536]?;
-    let mut long = vec![in rt.alloc(); 0u8; 65_537]?;
+    let mut bytes = [0; 65_536];
+    let mut long = [0; 65_537];
     let log = recorded(rt.alloc(), Kind::Rf5c68a, &[register(0, 1), wait(3)])?;
-    let mut chip = Chip::new(Ram::new(bytes.as_mut_slice()), RF5C68A);
-    let mut other = Chip::new(Ram::new(long.as_mut_slice()), RF5C68A);
+    let mut chip = Chip::new(Ram::new(&mut bytes), RF5C68A);
+    let mut other = Chip::new(Ram::new(&mut long), RF5C68A);
     let mut player = Player::new(log.as_slice());
     let before = [TAKEN, TAKEN, TAKEN, totals(0, 0), totals(0, 0)];
     check_steps(&rt, &mut player, &mut chip, &before);
@@ -98,7 +98,7 @@ fn last_tick_of_a_wait(rt: HostRuntime) -> Result<(), Fail> {
 // Over mask ROM alone, at the first record.
 #[test]
 fn rom_alone(rt: HostRuntime) -> Result<(), Fail> {
-    let rom = vec![in rt.alloc(); 0x11u8; 65_536]?;
+    let rom = [0x11; 65_536];
     for (record, address) in [
         (window(5, 0x01), 0x1005),
         (window(0xFFF, 0x01), 0x1FFF),
@@ -106,7 +106,7 @@ fn rom_alone(rt: HostRuntime) -> Result<(), Fail> {
         (block(0xFFF, &[0x11]), 0x1FFF),
     ] {
         let log = recorded(rt.alloc(), Kind::Rf5c68a, &[record])?;
-        let mut chip = Chip::new(Rom::new(rom.as_slice()), RF5C68A);
+        let mut chip = Chip::new(Rom::new(&rom), RF5C68A);
         let mut player = Player::new(log.as_slice());
         let stop = Err(Told(5, "memory", 32, address));
         let _ = check_stop(&rt, &mut player, &mut chip, stop);
@@ -134,13 +134,13 @@ fn check_board(
     record: Record<'static>,
     (answer, shown): (Result<Progress, Told>, [u8; 8]),
 ) -> Result<(), Fail> {
-    let mut low = vec![in heap; 0u8; 0x8064]?;
-    let mut high = vec![in heap; 0u8; 0x7F9B]?;
+    let mut low = [0; 0x8064];
+    let mut high = [0; 0x7F9B];
     let board = Board {
-        first: Ram::new(low.as_mut_slice()),
+        first: Ram::new(&mut low),
         second: Board {
             first: Rom::new(&[0x11]),
-            second: Ram::new(high.as_mut_slice()),
+            second: Ram::new(&mut high),
         },
     };
     let log = recorded(heap, Kind::Rf5c68a, &[register(7, 8), record])?;

@@ -25,10 +25,10 @@ fn check_case(
     (records, end, calls): Case<'_>,
 ) -> Result<(), Fail> {
     let log = recorded(heap, setup.kind, records)?;
-    let mut bytes = vec![in heap; byte; 65_536]?;
-    let mut other_bytes = vec![in heap; byte; 65_536]?;
-    let mut chip = Chip::new(Ram::new(bytes.as_mut_slice()), setup);
-    let mut other = Chip::new(Ram::new(other_bytes.as_mut_slice()), setup);
+    let mut bytes = [byte; 65_536];
+    let mut other_bytes = [byte; 65_536];
+    let mut chip = Chip::new(Ram::new(&mut bytes), setup);
+    let mut other = Chip::new(Ram::new(&mut other_bytes), setup);
     let mut player = Player::new(log.as_slice());
     let _ = check_stop(rt, &mut player, &mut chip, Ok(Seen::Ended(end)));
     let mut frame = UNFILLED;
@@ -179,19 +179,19 @@ fn waits(rt: HostRuntime) -> Result<(), Fail> {
 // A block of a whole window, into wave bank 5.
 #[test]
 fn longest_block(rt: HostRuntime) -> Result<(), Fail> {
-    let mut payload = vec![in rt.alloc(); 0x5Au8; 4_096]?;
+    let mut payload = [0x5A; 4_096];
     for (byte, number) in payload.iter_mut().zip(0..250) {
         *byte = number;
     }
-    let bytes = payload.as_slice();
+    let bytes: &[u8] = &payload;
     let list = [register(7, 5), Record::Block { offset: 0, bytes }];
     let log = recorded(rt.alloc(), RF5C68A.kind, &list)?;
-    let mut memory = vec![in rt.alloc(); 0x40u8; 65_536]?;
-    let mut chip = Chip::new(Ram::new(memory.as_mut_slice()), RF5C68A);
+    let mut memory = [0x40; 65_536];
+    let mut chip = Chip::new(Ram::new(&mut memory), RF5C68A);
     let mut player = Player::new(log.as_slice());
     // 47 + 27 bits, 6 of padding, and 4,096 bytes
     let _ = check_stop(&rt, &mut player, &mut chip, Ok(Seen::Ended(32_848)));
-    assert_eq!(rt; memory.get(0x5000..0x6000), Some(payload.as_slice()));
+    assert_eq!(rt; memory.get(0x5000..0x6000), Some(bytes));
     for outside in [0..0x5000, 0x6000..65_536] {
         let bytes = memory.get(outside).unwrap_or(&[]);
         assert!(rt; bytes.iter().all(|byte| *byte == 0x40));

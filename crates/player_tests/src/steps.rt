@@ -33,9 +33,9 @@ const ENDED: Answer = Ok(Seen::Ended(231));
 
 #[test]
 fn each_step(rt: HostRuntime) -> Result<(), Fail> {
-    let mut bytes = vec![in rt.alloc(); 0u8; 65_536]?;
+    let mut bytes = [0; 65_536];
     let log = recorded(rt.alloc(), Kind::Rf5c164, &sound())?;
-    let mut chip = Chip::new(Ram::new(bytes.as_mut_slice()), RF5C164);
+    let mut chip = Chip::new(Ram::new(&mut bytes), RF5C164);
     let mut player = Player::new(log.as_slice());
     check_steps(&rt, &mut player, &mut chip, &[TAKEN; 9]);
     let answers = [
@@ -58,9 +58,9 @@ fn each_step(rt: HostRuntime) -> Result<(), Fail> {
 // The header, the records and the wait itself leave every voice at rest.
 #[test]
 fn wait_before_its_ticks(rt: HostRuntime) -> Result<(), Fail> {
-    let mut bytes = vec![in rt.alloc(); 0u8; 65_536]?;
+    let mut bytes = [0; 65_536];
     let log = recorded(rt.alloc(), Kind::Rf5c164, &sound())?;
-    let mut chip = Chip::new(Ram::new(bytes.as_mut_slice()), RF5C164);
+    let mut chip = Chip::new(Ram::new(&mut bytes), RF5C164);
     let mut player = Player::new(log.as_slice());
     check_steps(&rt, &mut player, &mut chip, &[TAKEN; 9]);
     assert_eq!(rt; chip.contributions(), SILENT);
@@ -76,9 +76,9 @@ fn wait_before_its_ticks(rt: HostRuntime) -> Result<(), Fail> {
 
 #[test]
 fn frame_of_a_tick(rt: HostRuntime) -> Result<(), Fail> {
-    let mut bytes = vec![in rt.alloc(); 0u8; 65_536]?;
+    let mut bytes = [0; 65_536];
     let log = recorded(rt.alloc(), Kind::Rf5c164, &sound())?;
-    let mut chip = Chip::new(Ram::new(bytes.as_mut_slice()), RF5C164);
+    let mut chip = Chip::new(Ram::new(&mut bytes), RF5C164);
     let mut player = Player::new(log.as_slice());
     check_steps(&rt, &mut player, &mut chip, &[TAKEN; 9]);
     check_steps(&rt, &mut player, &mut chip, &[totals(512, 256)]);
@@ -107,10 +107,10 @@ fn count_ticks<M: Store>(
 
 #[test]
 fn ticks_of_waits(rt: HostRuntime) -> Result<(), Fail> {
-    let mut bytes = vec![in rt.alloc(); 0u8; 65_536]?;
+    let mut bytes = [0; 65_536];
     for ticks in [1, 2, 3, 255, 256, 257, 32_768, 65_535] {
         let log = recorded(rt.alloc(), Kind::Rf5c68a, &[wait(ticks), window(0, 9)])?;
-        let mut chip = Chip::new(Ram::new(bytes.as_mut_slice()), RF5C68A);
+        let mut chip = Chip::new(Ram::new(&mut bytes), RF5C68A);
         let mut player = Player::new(log.as_slice());
         check_steps(&rt, &mut player, &mut chip, &[TAKEN, TAKEN]);
         let counted = count_ticks(&rt, &mut player, &mut chip);

@@ -57,10 +57,10 @@ const LOGS: [(&[Field], usize, Answer); 17] = [
 
 #[test]
 fn each_log(rt: HostRuntime) -> Result<(), Fail> {
-    let mut bytes = vec![in rt.alloc(); 0u8; 65_536]?;
+    let mut bytes = [0; 65_536];
     for (fields, steps, stop) in LOGS {
         let log = log_of(rt.alloc(), fields)?;
-        let mut chip = Chip::new(Ram::new(bytes.as_mut_slice()), RF5C68A);
+        let mut chip = Chip::new(Ram::new(&mut bytes), RF5C68A);
         let mut player = Player::new(log.as_slice());
         let count = check_stop(&rt, &mut player, &mut chip, stop);
         assert_eq!(rt; count, steps, "{:?}", fields);

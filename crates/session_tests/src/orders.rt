@@ -7,7 +7,6 @@ use session::call::Call::Chip;
 use session::session::Session;
 use session::station::Station;
 use std::process::Abort;
-use std::test::Fail;
 use voice::frame::{Converter, Frame};
 use wave::board::Board;
 use wave::memory::Store;
@@ -120,24 +119,20 @@ fn check_order<A: Store + Drop, B: Store + Drop, C: Store + Drop, D: Store + Dro
 }
 
 #[test]
-fn over_three_makes(rt: HostRuntime) -> Result<(), Fail> {
-    let mut bytes = vec![in rt.alloc(); 0u8; 65_536]?;
-    let mut whole = vec![in rt.alloc(); 0u8; 65_536]?;
-    let mut first = vec![in rt.alloc(); 0u8; 32_768]?;
-    let mut second = vec![in rt.alloc(); 0u8; 32_768]?;
-    let mut beside = vec![in rt.alloc(); 0u8; 65_536]?;
+fn over_three_makes(rt: HostRuntime) {
+    let mut bytes = [0; 65_536];
+    let mut whole = [0; 65_536];
+    let mut first = [0; 32_768];
+    let mut second = [0; 32_768];
+    let mut beside = [0; 65_536];
     let halves = Board {
-        first: Ram::new(first.as_mut_slice()),
-        second: Ram::new(second.as_mut_slice()),
+        first: Ram::new(&mut first),
+        second: Ram::new(&mut second),
     };
     let with_rom = Board {
-        first: Ram::new(beside.as_mut_slice()),
+        first: Ram::new(&mut beside),
         second: Rom::new(&[]),
     };
-    let (mix, ram) = (
-        Ram::new(bytes.as_mut_slice()),
-        Ram::new(whole.as_mut_slice()),
-    );
+    let (mix, ram) = (Ram::new(&mut bytes), Ram::new(&mut whole));
     check_order(&rt, (mix, ram, halves, with_rom));
-    Ok(())
 }

@@ -8,7 +8,6 @@ use session::call::Call::{Chip, Step};
 use session::session::Session;
 use session::station::Station;
 use std::process::Abort;
-use std::test::Fail;
 use voice::frame::Converter;
 use wave::board::Board;
 use wave::memory::Store;
@@ -152,18 +151,18 @@ fn board<'a>(ram: &'a mut [u8], rom: &'a [u8]) -> Board<Ram<'a>, Rom<'a>> {
 }
 
 #[test]
-fn at_ends_and_faults(rt: HostRuntime) -> Result<(), Fail> {
+fn at_ends_and_faults(rt: HostRuntime) {
     let (kind, bits) = (Kind::Rf5c68a, Converter::Bits16);
     let [low, high] = GROUPS;
-    let rom = vec![in rt.alloc(); 0xC0u8; 0xD7FE]?;
+    let rom = [0xC0; 0xD7FE];
     for case in &CASES {
-        let mut mix_ram = vec![in rt.alloc(); 0u8; 0x2802]?;
-        let mut low_ram = vec![in rt.alloc(); 0u8; 0x2802]?;
-        let mut high_ram = vec![in rt.alloc(); 0u8; 0x2802]?;
+        let mut mix_ram = [0; 0x2802];
+        let mut low_ram = [0; 0x2802];
+        let mut high_ram = [0; 0x2802];
         let (mut mix_buffer, mut low_buffer, mut high_buffer) = ([0; 4], [0; 4], [0; 4]);
-        let mix = board(mix_ram.as_mut_slice(), rom.as_slice());
-        let low_board = board(low_ram.as_mut_slice(), rom.as_slice());
-        let high_board = board(high_ram.as_mut_slice(), rom.as_slice());
+        let mix = board(&mut mix_ram, &rom);
+        let low_board = board(&mut low_ram, &rom);
+        let high_board = board(&mut high_ram, &rom);
         let mut session = Session {
             mix: Station::new(0xFF, kind, bits, mix, case.log, &mut mix_buffer),
             stems: (
@@ -179,5 +178,4 @@ fn at_ends_and_faults(rt: HostRuntime) -> Result<(), Fail> {
         check_call(&rt, &mut session, &GROUPS, Chip(Inspect(0x7FF)));
         assert_eq!(rt; mix_buffer, case.shown);
     }
-    Ok(())
 }

@@ -26,8 +26,8 @@ const PIECES: [(usize, [(usize, bool); 4]); 4] = [
 #[test]
 fn pieces(rt: HostRuntime) -> Result<(), Fail> {
     for (size, pieces) in PIECES {
-        let mut bytes = vec![in rt.alloc(); 0u8; 65_536]?;
-        let chip = Chip::new(Ram::new(bytes.as_mut_slice()), SETUP);
+        let mut bytes = [0; 65_536];
+        let chip = Chip::new(Ram::new(&mut bytes), SETUP);
         let mut playback = Playback::new(chip, &ONE_VOICE[1..]);
         let mut buffer = vec![in rt.alloc(); 0u8; size]?;
         for (length, ended) in pieces {

@@ -1,6 +1,5 @@
 // Boards of RAM and ROM, and boards of boards.
 use crate::cases::{PAST_END, READ_ONLY, WRITTEN, byte, check_cases};
-use std::test::Fail;
 use wave::access::Access::{Read, Write};
 use wave::board::Board;
 use wave::memory::Source;
@@ -84,12 +83,12 @@ fn board_of_boards(rt: HostRuntime) {
 }
 
 #[test]
-fn cut_at_the_limit(rt: HostRuntime) -> Result<(), Fail> {
-    let low = vec![in rt.alloc(); 1u8; 100_000]?;
-    let mut high = vec![in rt.alloc(); 2u8; 100_000]?;
+fn cut_at_the_limit(rt: HostRuntime) {
+    let low = [1; 100_000];
+    let mut high = [2; 100_000];
     let mut board = Board {
-        first: Rom::new(low.as_slice()),
-        second: Ram::new(high.as_mut_slice()),
+        first: Rom::new(&low),
+        second: Ram::new(&mut high),
     };
     let cases = [
         (Write(131_071, 9), WRITTEN),
@@ -100,5 +99,4 @@ fn cut_at_the_limit(rt: HostRuntime) -> Result<(), Fail> {
     check_cases(&rt, &mut board, &cases);
     assert_eq!(rt; high.get(31_071).copied(), Some(9));
     assert_eq!(rt; high.get(31_072).copied(), Some(2));
-    Ok(())
 }

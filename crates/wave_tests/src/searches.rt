@@ -1,6 +1,5 @@
 // The stop search at each edge.
 use std::process::Abort;
-use std::test::Fail;
 use wave::board::Board;
 use wave::memory::Source;
 use wave::rom::Rom;
@@ -46,19 +45,18 @@ fn across_a_board(rt: HostRuntime) {
 }
 
 #[test]
-fn at_the_last_place_that_is_used(rt: HostRuntime) -> Result<(), Fail> {
-    let mut bytes = vec![in rt.alloc(); 0u8; 131_073]?;
-    bytes.as_mut_slice()[131_072] = 0xFF;
-    check_found(&rt, &Rom::new(bytes.as_slice()), &[(0, None)]);
-    bytes.as_mut_slice()[131_071] = 0xFF;
+fn at_the_last_place_that_is_used(rt: HostRuntime) {
+    let mut bytes = [0; 131_073];
+    bytes[131_072] = 0xFF;
+    check_found(&rt, &Rom::new(&bytes), &[(0, None)]);
+    bytes[131_071] = 0xFF;
     check_found(
         &rt,
-        &Rom::new(bytes.as_slice()),
+        &Rom::new(&bytes),
         &[
             (0, Some(131_071)),
             (131_071, Some(131_071)),
             (131_072, None),
         ],
     );
-    Ok(())
 }
