@@ -1,3 +1,4 @@
 pub mod Sounds
 pub mod Levels
 pub mod Sums
+pub mod Clips

@@ -1,13 +1,14 @@
 // The first clip of a list of totals: where a sound was first limited.
-ghost use Rattle.std.specs.Prelude.{◌↔◌, IsTrue};
-ghost use Rattle.voice.specs.Clip.{Clips, FirstClip};
+ghost use Rattle.std.specs.Prelude.{◌≡◌};
+ghost use Rattle.voice.specs.Clip.{clips, first_clip, FirstClip};
 
 use crate::frame::{HIGHEST, LOWEST};
 use crate::stereo::{SideName, Stereo};
 
 // The first total that the limiter changes, by its pair and its side, or none. In a pair the left one is first.
 pub fn first_clip(totals: &[Stereo<i32>]) -> Option<(usize, SideName)>
-    ensures { FirstClip totals.now result }
+    ensures exact { result ≡ first_clip totals.now }
+    ensures law { FirstClip totals.now result }
 {
     // the label leaves both loops with both indices
     'pairs: {
@@ -23,7 +24,7 @@ pub fn first_clip(totals: &[Stereo<i32>]) -> Option<(usize, SideName)>
 }
 
 fn clips(total: i32) -> bool
-    ensures { IsTrue result ↔ Clips total }
+    ensures { result ≡ clips total }
 {
     !(LOWEST..=HIGHEST).contains(&total)
 }
