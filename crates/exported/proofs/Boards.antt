@@ -1,18 +1,16 @@
 -- The RAM at the front of a board.
-use Rattle.std.proofs.Common.{◌≡◌, ℕ, true, List, ◌++◌, length, take, drop, min, sym, ap, ap₂, ◌∙◌, arith}
-use Rattle.std.proofs.lemmas.List.{take-take, take_all, length-take, length-drop, length-append, take_min, drop_min}
+use Rattle.std.proofs.Common.{◌≡◌, ℕ, List, [], ◌∷◌, ◌++◌, length, take, min, sym, ap, ap₂, ◌∙◌}
+use Rattle.std.proofs.lemmas.List.{take-append-drop, take-take}
 use Rattle.std.proofs.Math.Seq.{take-append_seam}
-use Rattle.wave.specs.Memory.{most, meaning}
+use Rattle.wave.specs.Memory.{most, Loan}
 use Rattle.wave.specs.Lent.{used, used_within, beyond, ram, rom}
 use Rattle.wave.specs.Board.{joined, board}
 use Rattle.wave.specs.Memory.{Memory}
 use Rattle.chip.specs.Port.{State}
 use Rattle.chip.specs.declared.registers.Registers.{Registers}
+use Rattle.wave.proofs.Limits.{used_length}
 use Rattle.player.specs.Step.{Stand}
 use Rattle.exported.specs.Plays.{begun, playing}
-use Rattle.exported.specs.Ports.{chip_over}
-use Rattle.exported.specs.States.{registers_of}
-use Rattle.exported.specs.declared.states.ChipState.{ChipState}
 use Rattle.exported.specs.declared.frames.Totals.{Totals}
 use Rattle.exported.specs.declared.frames.Words.{Words}
 
@@ -39,37 +37,23 @@ same_start log other c d p q totals words e f g =
     ap (λ l. playing l (begun c p totals words)) e
     ∙ ap₂ (λ x y. playing other (begun x y totals words)) f g
 
--- the bytes of lent RAM that a memory uses, lent by themselves
+-- Lent RAM, of which a memory uses the front
 
-front_of_both : (lent : List ℕ) (n : ℕ) → n ≡ min (length lent) most → (take n lent ≡ take most lent) × (drop n lent ≡ drop most lent)
-front_of_both lent n e =
-    let m : n ≡ min most (length lent) = omega arith in
-    (ap (λ k. take k lent) m ∙ take_min most lent, ap (λ k. drop k lent) m ∙ drop_min most lent)
+pub same_beyond : (x y : Loan) → x ∷ [] ≡ y ∷ [] → x.beyond ≡ y.beyond
+same_beyond x y e = cc
 
-pub reached_used : (lent : List ℕ) (n : ℕ) → n ≡ min (length lent) most → used (take n lent) ≡ used lent
-unfolding used
-reached_used lent n e =
-    take_all most (take n lent) (omega (arith, length-take n lent)) ∙ (front_of_both lent n e).0
-
-pub reached_chip :
-    (chip : ChipState) (lent second : List ℕ) (n : ℕ) → n ≡ min (length lent) most →
-    chip_over chip (take n lent) second ≡ chip_over chip lent second
-reached_chip chip lent second n e =
-    ap (λ u. state (registers_of chip) (board (meaning u (λ _. true)) (rom second))) (reached_used lent n e)
-
-pub playing_reached :
-    (log : List ℕ) (chip : ChipState) (lent second : List ℕ) (n : ℕ) (p : Stand) (totals : List Totals) (words : List Words) →
-    n ≡ min (length lent) most →
-    playing log (begun (chip_over chip (take n lent) second) p totals words) ≡ playing log (begun (chip_over chip lent second) p totals words)
-playing_reached log chip lent second n p totals words e =
-    ap (λ s. playing log (begun s p totals words)) (reached_chip chip lent second n e)
-
-pub reached_again :
-    (lent after bytes : List ℕ) (n : ℕ) → n ≡ min (length lent) most → length (after ++ drop n lent) ≡ length lent →
-    used after ≡ take (length (used after)) bytes → after ++ drop n lent ≡ take (length (used lent)) bytes ++ beyond lent
+-- after a call that left what is beyond
+pub lent_again :
+    (before after second bytes : List ℕ) → beyond after ≡ beyond before → joined (used after) second ≡ bytes →
+    after ≡ take (length (used after)) bytes ++ beyond before
 unfolding used beyond
-reached_again lent after bytes n e l h =
-    let long : length after ≡ n = omega (arith, length-append after (drop n lent), length-drop n lent) in
-    let all : take most after ≡ after = take_all most after (omega arith) in
-    let m : length (take most after) ≡ length (take most lent) = omega (arith, length-take most after, length-take most lent) in
-    ap₂ (λ xs ys. xs ++ ys) (sym all ∙ h ∙ ap (λ k. take k bytes) m) (front_of_both lent n e).1
+lent_again before after second bytes e f =
+    sym (take-append-drop most after)
+    ∙ ap₂ ◌++◌ (front after second ∙ ap (λ bs. take (length (take most after)) bs) f) e
+
+-- lent bytes stay as many
+pub as_many :
+    (lent after bytes rest : List ℕ) → length after ≡ length lent → after ≡ take (length (used after)) bytes ++ rest →
+    after ≡ take (length (used lent)) bytes ++ rest
+as_many lent after bytes rest l e =
+    e ∙ ap (λ n. take n bytes ++ rest) (used_length after ∙ ap (min most) l ∙ sym (used_length lent))

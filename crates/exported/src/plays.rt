@@ -1,6 +1,6 @@
 // Playing a log over numbers, until the player stops or the lent buffers are full.
 ghost use Rattle.std.specs.Prelude.{◌≡◌, ◌++◌};
-ghost use Rattle.wave.specs.Lent.{used, beyond};
+ghost use Rattle.wave.specs.Lent.{beyond};
 ghost use Rattle.chip.specs.Chip.{state};
 ghost use Rattle.player.specs.Step.{stand};
 ghost use Rattle.exported.specs.States.{stand_of, saved_chip, saved_stand};
@@ -14,7 +14,7 @@ use chip::chip::Chip;
 use player::fault::Fault;
 use player::player::{Player, Progress};
 use voice::frame::Frame;
-use wave::memory::{MOST, Store};
+use wave::memory::Store;
 
 // What a player's step came to.
 #[repr(C)]
@@ -68,6 +68,7 @@ fn step_answer(answer: Result<Progress, Fault>) -> StepAnswer
 }
 
 // Plays on, and fills the buffers from the front.
+#[tactic(auto, using(crate::proofs::Boards::as_many))]
 pub fn play(
     chip: &mut ChipState,
     player: &mut PlayerState,
@@ -85,28 +86,6 @@ pub fn play(
         (chip.new ≡ saved_chip o.stage.chip.registers) × (player.new ≡ saved_stand o.stage.player) }
     ensures ram { let o = playing log.now (begun (chip_over chip.old ram.old rom.now) (stand_of player.old) totals.old words.old) in
         ram.new ≡ ram_of ram.old o.stage.chip ++ beyond ram.old }
-{
-    let reached = ram.len().min(MOST);
-    play_reached(chip, player, log, &mut ram[..reached], rom, totals, words)
-}
-
-fn play_reached(
-    chip: &mut ChipState,
-    player: &mut PlayerState,
-    log: &[u8],
-    ram: &mut [u8],
-    rom: &[u8],
-    totals: &mut [Totals],
-    words: &mut [Words],
-) -> Played
-    ensures played { let o = playing log.now (begun (chip_over chip.old ram.old rom.now) (stand_of player.old) totals.old words.old) in
-        (result.ticks ≡ o.stage.ticks) × (result.last ≡ step_answer o.last) }
-    ensures buffers { let o = playing log.now (begun (chip_over chip.old ram.old rom.now) (stand_of player.old) totals.old words.old) in
-        (totals.new ≡ o.stage.totals) × (words.new ≡ o.stage.words) }
-    ensures states { let o = playing log.now (begun (chip_over chip.old ram.old rom.now) (stand_of player.old) totals.old words.old) in
-        (chip.new ≡ saved_chip o.stage.chip.registers) × (player.new ≡ saved_stand o.stage.player) }
-    ensures ram { let o = playing log.now (begun (chip_over chip.old ram.old rom.now) (stand_of player.old) totals.old words.old) in
-        used ram.new ≡ ram_of ram.new o.stage.chip }
 {
     let mut played = Played {
         ticks: 0,
@@ -135,7 +114,7 @@ fn play_through<'a>(
     ensures states { let o = playing log.now (begun (chip_over chip.old ram.old rom.now) (stand_of player.old) totals.old words.old) in
         (chip.new ≡ saved_chip o.stage.chip.registers) × (player.new ≡ saved_stand o.stage.player) }
     ensures ram { let o = playing log.now (begun (chip_over chip.old ram.old rom.now) (stand_of player.old) totals.old words.old) in
-        used result.now ≡ ram_of result.now o.stage.chip }
+        result.now ≡ ram_of result.now o.stage.chip ++ beyond ram.old }
 {
     let mut sounding = resume(chip, ram, rom);
     let mut reading = Player::resume(log, player.place, player.state());

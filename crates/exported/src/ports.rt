@@ -1,7 +1,7 @@
 // The calls of a chip over numbers: each loads the chip, carries out the call, and saves it again.
 ghost use Rattle.std.specs.Prelude.{◌≡◌, ◌++◌, length};
 ghost use Rattle.outcome.specs.Outcome.{granted, kept};
-ghost use Rattle.wave.specs.Lent.{used, beyond};
+ghost use Rattle.wave.specs.Lent.{beyond};
 ghost use Rattle.chip.specs.Port.{write, read, inspect, tick};
 ghost use Rattle.exported.specs.States.{registers_of, saved_chip};
 ghost use Rattle.exported.specs.Ports.{bytes_of, chip_over, ram_of, refusal_number, read_answer, filled};
@@ -11,7 +11,6 @@ use crate::memories::{resume, resume_reading};
 use crate::states::ChipState;
 use chip::refusal::Refusal;
 use voice::frame::Frame as VoiceFrame;
-use wave::memory::MOST;
 
 // The byte of a read, or why it is refused.
 #[repr(C)]
@@ -31,23 +30,13 @@ fn refusal_number(answer: Result<(), Refusal>) -> u8
     }
 }
 
+#[tactic(auto, using(crate::proofs::Boards::as_many))]
 pub fn write(chip: &mut ChipState, ram: &mut [u8], rom: &[u8], address: u16, byte: u8) -> u8
     ensures answer { result ≡ refusal_number (granted (write (chip_over chip.old ram.old rom.now) address byte)) }
     ensures registers { let c = chip_over chip.old ram.old rom.now in
         chip.new ≡ saved_chip (kept c (write c address byte)).registers }
     ensures ram { let c = chip_over chip.old ram.old rom.now in
         ram.new ≡ ram_of ram.old (kept c (write c address byte)) ++ beyond ram.old }
-{
-    let reached = ram.len().min(MOST);
-    write_reached(chip, &mut ram[..reached], rom, address, byte)
-}
-
-fn write_reached(chip: &mut ChipState, ram: &mut [u8], rom: &[u8], address: u16, byte: u8) -> u8
-    ensures answer { result ≡ refusal_number (granted (write (chip_over chip.old ram.old rom.now) address byte)) }
-    ensures registers { let c = chip_over chip.old ram.old rom.now in
-        chip.new ≡ saved_chip (kept c (write c address byte)).registers }
-    ensures ram { let c = chip_over chip.old ram.old rom.now in
-        used ram.new ≡ ram_of ram.new (kept c (write c address byte)) }
 {
     let mut answer = Ok(());
     let _ = write_through(chip, ram, rom, address, byte, &mut answer);
@@ -68,7 +57,7 @@ fn write_through<'a>(
     ensures registers { let c = chip_over chip.old ram.old rom.now in
         chip.new ≡ saved_chip (kept c (write c address byte)).registers }
     ensures ram { let c = chip_over chip.old ram.old rom.now in
-        used result.now ≡ ram_of result.now (kept c (write c address byte)) }
+        result.now ≡ ram_of result.now (kept c (write c address byte)) ++ beyond ram.old }
 {
     let mut playing = resume(chip, ram, rom);
     *answer = playing.write(address, byte);

@@ -1,6 +1,6 @@
 -- A station: a chip with a player of a log, a frame and a buffer that its calls fill, and the latest answer, or none.
 use Rattle.std.specs.Prelude.{ℕ, Bool, List, [], ◌∷◌, length, replicate, Option, None, Some, pos}
-use Rattle.wave.specs.Memory.{Memory}
+use Rattle.wave.specs.Memory.{Memory, Loan}
 use Rattle.voice.specs.Frame.{Frame}
 use Rattle.voice.specs.declared.frame.Converter.{Converter}
 use Rattle.voice.specs.declared.frame.Side.{Side}
@@ -39,9 +39,13 @@ model bytes takes s =
       answer = s.answer;
     }
 
--- the names of the loans that a station holds: its buffer's, and those of its memory
-abbrev pub held : {M : Type 0} → (M → List ℕ) → Station M → List ℕ
-held borrows s = s.buffer.ghost_name ∷ borrows s.chip.memory
+-- a loan of which all is used
+abbrev pub all_of : ℕ → Loan
+all_of name = record { name = name; beyond = [] }
+
+-- the loans that a station holds: its buffer's, and those of its memory
+abbrev pub held : {M : Type 0} → (M → List Loan) → Station M → List Loan
+held borrows s = all_of s.buffer.ghost_name ∷ borrows s.chip.memory
 
 -- the frame before any tick
 abbrev pub blank_side : Side

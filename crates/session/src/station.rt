@@ -1,7 +1,7 @@
 // A station: a chip with a player of a log, and what their calls fill.
 ghost use Rattle.std.specs.Prelude.{◌≡◌, ◌∷◌};
 ghost use Rattle.wave.specs.Means.{means};
-ghost use Rattle.session.specs.Station.{model, held, begun, tried};
+ghost use Rattle.session.specs.Station.{model, all_of, held, begun, tried};
 
 use crate::call::{Answer, Call};
 use calls::perform;
@@ -37,7 +37,7 @@ impl<'a, 'b, M: Store> Station<'a, 'b, M> {
     ) -> Station<'a, 'b, M>
         ensures values { model M.bytes M.takes result
             ≡ begun group kind converter (means M.bytes M.takes memory) log.now buffer.old }
-        ensures loans { held M.borrows result ≡ buffer.entry.ghost_name ∷ M.borrows memory }
+        ensures loans { held M.borrows result ≡ all_of buffer.entry.ghost_name ∷ M.borrows memory }
     {
         let setup = Setup {
             kind,

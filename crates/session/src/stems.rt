@@ -1,5 +1,6 @@
 // Stations in a row, each over a memory of whatever make.
-ghost use Rattle.std.specs.Prelude.{◌≡◌, ℕ, List, [], ◌∷◌, map};
+ghost use Rattle.std.specs.Prelude.{◌≡◌, List, [], ◌∷◌, map};
+ghost use Rattle.wave.specs.Memory.{Loan};
 ghost use Rattle.session.specs.Station.{Model, model, held, tried};
 
 use crate::call::Call;
@@ -9,8 +10,8 @@ use wave::memory::Store;
 pub trait Stems {
     ghost models: { Self → List Model };
 
-    // the names of the loans that they hold, those of each station in a list: what calls leave in them reaches their lenders
-    ghost loans: { Self → List (List ℕ) };
+    // the loans that they hold, those of each station in a list: what calls leave in them reaches their lenders
+    ghost loans: { Self → List (List Loan) };
 
     // Tries a call on each.
     fn try_each(&mut self, call: Call)

@@ -1,8 +1,9 @@
 -- Bytes that a memory is made over.
 use Rattle.std.specs.Prelude.{ℕ, ◌≤◌, true, false, List, length, take, drop}
+use Rattle.std.specs.Borrow.{MutBor}
 use Rattle.std.proofs.Common.{arith}
 use Rattle.std.proofs.lemmas.List.{length-take}
-use Rattle.wave.specs.Memory.{Memory, most, meaning}
+use Rattle.wave.specs.Memory.{Memory, Loan, most, meaning}
 
 -- those that it uses
 unfoldable pub used : List ℕ → List ℕ
@@ -15,6 +16,10 @@ used_within lent = omega (arith, length-take most lent)
 -- those beyond, which it never reaches
 unfoldable pub beyond : List ℕ → List ℕ
 beyond lent = drop most lent
+
+-- what RAM holds of its lender
+abbrev pub loan : MutBor (List ℕ) → Loan
+loan lent = record { name = lent.ghost_name; beyond = beyond lent.now }
 
 -- RAM takes writes everywhere
 abbrev pub ram : List ℕ → Memory

@@ -30,6 +30,11 @@ pub record Alike (m n : Memory) : Type 0 where
   pub bytes : m.bytes ≡ n.bytes
   pub takes : (place : ℕ) → place < size m → m.takes place ≡ n.takes place
 
+-- bytes that a memory is lent: the name of the borrow, and those beyond its places, which it never reaches
+pub record Loan : Type 0 where
+  pub name : ℕ
+  pub beyond : List ℕ
+
 -- a read: the byte, or past the end
 abbrev pub fetch : List ℕ → ℕ → Result ℕ Refusal
 fetch bytes place = cond (nat_lt place (length bytes)) (Ok (slice_index bytes place)) (Err PastEnd)

@@ -2,7 +2,7 @@
 // All other code knows a memory by these two traits alone.
 ghost use Rattle.std.specs.Prelude.{◌≡◌, ℕ, ◌≤◌, Bool, List, length, slice_index};
 ghost use Rattle.outcome.specs.Outcome.{granted};
-ghost use Rattle.wave.specs.Memory.{number, most, fetch, store, written, meaning};
+ghost use Rattle.wave.specs.Memory.{number, most, fetch, store, written, meaning, Loan};
 
 // The most places that a memory uses; bytes beyond them are never reached.
 pub const MOST: usize = 131_072;
@@ -41,8 +41,8 @@ pub trait Store: Source {
     // the places that take writes; what it says of places at or past the size does not count
     ghost takes: { Self → ℕ → Bool };
 
-    // the names of the borrows that it holds: what a write leaves in them reaches their lenders
-    ghost borrows: { Self → List ℕ };
+    // the borrows that it holds: what a write leaves in them reaches their lenders, and what lies beyond its places stays
+    ghost borrows: { Self → List Loan };
 
     fn write(&mut self, place: usize, byte: u8) -> Result<(), Refusal>
         ensures answer { result ≡ granted (store (meaning (Self.bytes self.old) (takes self.old)) place byte) }

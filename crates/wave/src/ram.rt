@@ -2,7 +2,7 @@
 ghost use Rattle.std.specs.Prelude.{◌≡◌, true, [], ◌∷◌};
 ghost use Rattle.outcome.specs.Outcome.{granted};
 ghost use Rattle.wave.specs.Memory.{store, written};
-ghost use Rattle.wave.specs.Lent.{beyond, ram};
+ghost use Rattle.wave.specs.Lent.{ram, loan};
 
 use crate::lent::Lent;
 use crate::memory::{Refusal, Source, Store};
@@ -27,14 +27,13 @@ impl<'a> Lent<&'a mut [u8]> {
 impl Store for Lent<&mut [u8]> {
     ghost takes = { λ _ _. true };
 
-    ghost borrows = { λ s. s.lent.ghost_name ∷ [] };
+    ghost borrows = { λ s. loan s.lent ∷ [] };
 
     #[tactic(auto, using(crate::proofs::Limits::used_length, crate::proofs::Limits::ram_written, crate::proofs::Limits::beyond_set, crate::proofs::Writes::store_past))]
     fn write(&mut self, place: usize, byte: u8) -> Result<(), Refusal>
         ensures answer { result ≡ granted (store (ram self.old.lent.now) place byte) }
         ensures after { ram self.new.lent.now ≡ written (ram self.old.lent.now) place byte }
-        ensures beyond { beyond self.new.lent.now ≡ beyond self.old.lent.now }
-        ensures same_borrows { self.new.lent.ghost_name ∷ [] ≡ self.old.lent.ghost_name ∷ [] }
+        ensures same_borrows { loan self.new.lent ∷ [] ≡ loan self.old.lent ∷ [] }
     {
         if place < self.size() {
             self.lent[place] = byte;

@@ -1,10 +1,10 @@
-use Rattle.std.proofs.Common.{◌∙◌, ap, ap₂, length, take}
-use Rattle.wave.specs.Lent.{used}
+use Rattle.std.proofs.Common.{◌≡◌, ◌∙◌, ap, ap₂}
+use Rattle.wave.specs.Lent.{beyond, loan}
 use Rattle.player.specs.Step.{Stand}
 use Rattle.player.specs.declared.player.State.{State}
 use Rattle.exported.specs.Plays.{step_answer}
 use Rattle.exported.specs.States.{saved_chip, saved_player, saved_stand}
-use Rattle.exported.proofs.Boards.{front, resumed, same_start}
+use Rattle.exported.proofs.Boards.{resumed, same_start, same_beyond, lent_again}
 use Rattle.exported.proofs.plays.play_through.Goals as goal
 
 pub returns-clause-played : goal.returns-clause-played
@@ -32,5 +32,7 @@ returns-clause-ram c =
     let player = c.resume-reading.ensures.stand ∙ ap at c.state.ensures in
     let out = c.play_on-ticks.ensures.played ∙ same_start _ _ _ _ _ _ c.args.totals.now c.args.words.now c.resume-reading.ensures.log chip player in
     let lent = c.play_on-ticks.new.chip.memory.first.lent.now in
+    let same : beyond lent ≡ beyond c.args.ram.now = same_beyond (loan c.play_on-ticks.new.chip.memory.first.lent) (loan c.resume-sounding.result.memory.first.lent) c.play_on-ticks.ensures.same_borrows
+    ∙ ap beyond c.resume-sounding.ensures.ram.0 in
     rw (c.into_lent.ensures.0, c.into_memory.ensures)
-    (front lent _ ∙ ap (λ o. take (length (used lent)) o.stage.chip.memory.bytes) out)
+    (lent_again c.args.ram.now lent _ _ same (ap (λ o. o.stage.chip.memory.bytes) out))
