@@ -1,13 +1,32 @@
 -- The examples by computation.
-use Rattle.std.proofs.Common.{◌≡◌, ℕ, ◌%◌, Bool, true, false, cond, eqb, List, [], ◌∷◌, length, get_or, Some, None, refl, ap, ◌∙◌, lit<, arith}
+use Rattle.std.proofs.Common.{◌≡◌, ◌≢◌, sym, ℕ, ◌%◌, Bool, true, false, cond, eqb, List, [], ◌∷◌, length, get_or, Some, None, refl, ap, ◌∙◌, lit<, arith}
+use Rattle.std.proofs.lemmas.Bool.{cond-false, ne_eqb}
 use Rattle.std.proofs.lemmas.List.{get_or_past}
+use Rattle.wave.specs.Search.{stop}
 use Rattle.wave.specs.Lent.{used}
 use Rattle.wave.proofs.Limits.{used_at, used_length}
-use Rattle.voice.specs.Voice.{Contribution, positions, position, onward, place, loop_start, look, heard, silence, tick, sounded}
+use Rattle.voice.specs.Voice.{Contribution, positions, position, onward, place, loop_start, look, landing, heard, silence, tick, sounded}
 use Rattle.voice.specs.declared.voice.Settings.{Settings}
 use Rattle.voice.specs.declared.voice.Voice.{Voice}
 use Rattle.register_log.specs.Fields.{field}
-use Rattle.soundings.specs.Known.{Known, loud}
+use Rattle.soundings.specs.Known.{Known, loud, moving, standing, stands_in, further}
+
+-- a step of three places
+three_on :
+    (bytes : List ℕ) (p : ℕ) → let v : Voice = standing (moving 24 0) p in let read : ℕ = further 3 (stands_in v) in
+    get_or bytes read 0 ≢ stop →
+    (stands_in (tick bytes true v) ≡ read) × ((tick bytes true v).latest ≡ heard v.settings (get_or bytes read 0))
+unfolding sounded
+three_on bytes p other =
+    let s : Settings = moving 24 0 in
+    let first : ℕ = onward s (Some p) in
+    let there : place first ≡ further 3 (stands_in (standing s p)) = omega arith in
+    let byte : look bytes first ≡ get_or bytes (further 3 (stands_in (standing s p))) 0 = ap (λ k. get_or bytes k 0) there in
+    let lands : landing bytes s first ≡ first = cond-false _ _ _ (ne_eqb (look bytes first) stop (λ e. other (sym byte ∙ e))) in
+    let within : first % positions ≡ first = omega arith in (
+      ap (λ q. place (q % positions)) lands ∙ ap place within ∙ there,
+      ap (λ q. heard s (look bytes q)) lands ∙ ap (heard s) byte,
+    )
 
 pub known : Known
 unfolding field
@@ -25,7 +44,7 @@ known =
       round = refl;
       at_rest = refl;
       at_rest_place = refl;
-      three_places = refl;
+      three_places = three_on;
       word_of_16 = refl;
       word_of_10 = refl;
       word_of_8 = refl;

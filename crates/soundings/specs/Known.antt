@@ -1,7 +1,8 @@
 -- What the makers' rules give in examples.
-use Rattle.std.specs.Prelude.{◌≡◌, ℕ, ◌+◌, ◌*◌, ◌-◌, List, [], ◌∷◌, ◌++◌, replicate, None, Some, Ok, ℤ, pos, neg_ℤ}
+use Rattle.std.specs.Prelude.{◌≡◌, ◌≢◌, ℕ, ◌+◌, ◌-◌, ◌/◌, ◌%◌, true, List, [], ◌∷◌, ◌++◌, replicate, None, Some, Ok, ℤ, pos, neg_ℤ, slice_index}
+use Rattle.wave.specs.Search.{stop}
 use Rattle.voice.specs.Frame.{limited, word, sum, contributions}
-use Rattle.voice.specs.Voice.{Contribution, heard, silence, fresh, onward, position, place, span, step}
+use Rattle.voice.specs.Voice.{Contribution, heard, silence, fresh, onward, position, positions, place, span, tick}
 use Rattle.voice.specs.declared.frame.Converter.TheVariants.{Bits16, Bits10, Bits8}
 use Rattle.voice.specs.declared.stereo.SideName.TheVariants.{Left}
 use Rattle.voice.specs.declared.voice.Settings.{Settings}
@@ -22,6 +23,17 @@ moving fdh fdl = record { env = 0; pan = 0; fdl = fdl; fdh = fdh; lsl = 0; lsh =
 
 abbrev pub starting : ℕ → Settings
 starting st = record { env = 0; pan = 0; fdl = 0; fdh = 0; lsl = 0; lsh = 0; st = st }
+
+-- a voice at a position, and the place that a voice stands in
+abbrev pub standing : Settings → ℕ → Voice
+standing s p = record { settings = s; phase = Some p; latest = silence }
+
+abbrev pub stands_in : Voice → ℕ
+stands_in v = place (position v.settings v.phase)
+
+-- the place so many further on; behind the last comes the first
+abbrev pub further : ℕ → ℕ → ℕ
+further n at = (at + n) % (positions / span)
 
 abbrev pub both : ℤ → Contribution
 both z = record { left = z; right = z }
@@ -62,7 +74,11 @@ pub record Known : Type 0 where
   pub round : onward (moving 0 1) (Some 134217727) ≡ 0
   pub at_rest : position (starting 18) None ≡ 9437184
   pub at_rest_place : place (position (starting 18) None) ≡ 4608
-  pub three_places : step (moving 24 0) ≡ 3 * span
+  -- a tick goes three places on from where the voice stands, and reads there, unless it meets a stop byte
+  pub three_places :
+      (bytes : List ℕ) (p : ℕ) → let v : Voice = standing (moving 24 0) p in let read : ℕ = further 3 (stands_in v) in
+      slice_index bytes read ≢ stop →
+      (stands_in (tick bytes true v) ≡ read) × ((tick bytes true v).latest ≡ heard v.settings (slice_index bytes read))
   -- the words of no sound
   pub word_of_16 : word Bits16 (pos 0) ≡ 0
   pub word_of_10 : word Bits10 (pos 0) ≡ 512

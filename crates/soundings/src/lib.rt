@@ -90,6 +90,7 @@ fn positions() -> bool
         && voice.place() == 0x1200
         && moved(0, 1, 134_217_727) == 0
         && moved(0x18, 0, 0) == 3 * 2_048
+        && moved(0x18, 0, 65_534 * 2_048) == 2_048
 }
 
 // Where a voice stands after a tick, over a memory of no bytes.
