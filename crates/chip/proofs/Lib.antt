@@ -1,3 +1,4 @@
 pub mod Bit
 pub mod Each
+pub mod Eight
 pub mod Shown

@@ -1,6 +1,6 @@
 -- All that a chip holds beside its memory: how it is made, what a register write and a tick do to it.
-use Rattle.std.specs.Prelude.{ℕ, suc, ◌/◌, ◌%◌, ◌^◌, Bool, false, cond, not, ◌&&◌, List, [], ◌∷◌, map, replicate, ◌==◌, bit_or, nat_lt, slice_index_or}
-use Rattle.voice.specs.Voice.{fresh, position, place, tick, Contribution}
+use Rattle.std.specs.Prelude.{ℕ, suc, ◌/◌, ◌%◌, ◌^◌, Bool, false, cond, not, ◌&&◌, List, [], ◌∷◌, replicate, ◌==◌, bit_or, nat_lt, slice_index_or}
+use Rattle.voice.specs.Voice.{fresh, position, place, tick, latest as latest-of, Contribution}
 use Rattle.voice.specs.declared.voice.Settings.{Settings}
 use Rattle.voice.specs.declared.voice.Voice.{Voice}
 use Rattle.chip.specs.Control.{bit, controlled}
@@ -88,6 +88,10 @@ position_byte voices i = byte_of (place (stands (slice_index_or voices (i / 2) f
 abbrev pub sounds : Bool → ℕ → ℕ → Bool
 sounds on channel k = on && not (bit channel k)
 
+-- voice k over one tick
+abbrev pub voice_ticked : List ℕ → ℕ → Registers → Registers
+voice_ticked bytes k r = with_voices r (chosen k (tick bytes (sounds r.control.on r.channel k)) r.voices)
+
 abbrev pub voices_after : List ℕ → Bool → ℕ → List Voice → List Voice
 voices_after bytes on channel voices = each (λ k v. tick bytes (sounds on channel k) v) 0 voices
 
@@ -96,4 +100,4 @@ ticked bytes r = with_voices r (voices_after bytes r.control.on r.channel r.voic
 
 -- the latest contributions
 abbrev pub latest : Registers → List Contribution
-latest r = map (λ v. v.latest) r.voices
+latest r = latest-of r.voices

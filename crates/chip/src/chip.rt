@@ -146,12 +146,8 @@ impl<M: Source> Chip<M> {
         ensures ranged { result ≡ Ok tt → Ranged frame.new }
     {
         self.check_size()?;
-        let totals = self.registers.tick(&self.memory);
-        *frame = Frame::of_totals(
-            &self.registers.voices,
-            totals,
-            self.registers.setup.converter,
-        );
+        let heard = self.registers.tick(&self.memory);
+        *frame = Frame::new(&heard, self.registers.setup.converter);
         Ok(())
     }
 }

@@ -1,14 +1,13 @@
 // All that a chip holds beside its memory.
-ghost use Rattle.std.specs.Prelude.{◌≡◌, slice_index_or};
-ghost use Rattle.voice.specs.Voice.{fresh};
-ghost use Rattle.voice.specs.Frame.{sums, AllBounded};
-ghost use Rattle.chip.specs.Registers.{made, with_byte, edited, chosen, registered, position_byte, sounds, ticked, latest};
+ghost use Rattle.std.specs.Prelude.{◌≡◌, ◌<◌, slice_index_or};
+ghost use Rattle.voice.specs.Voice.{fresh, Bounded};
+ghost use Rattle.voice.specs.Frame.{AllBounded};
+ghost use Rattle.chip.specs.Registers.{made, with_byte, edited, chosen, registered, position_byte, sounds, voice_ticked, ticked, latest};
 
 use crate::control::{Control, bit};
 use kind::Kind;
 use voice::frame::Converter;
-use voice::stereo::Stereo;
-use voice::voice::{Contribution, Settings, Voice};
+use voice::voice::{Contribution, Settings, Voice, latest};
 use wave::memory::Source;
 
 // How a chip is made.
@@ -63,28 +62,43 @@ impl Registers {
         if index % 2 == 0 { low } else { high }
     }
 
-    // One tick over a memory. Answers the sums of what the voices contribute, which are counted here and not read back.
-    #[tactic(auto, using(crate::proofs::Each::each_from))]
-    pub fn tick<S: Source>(&mut self, memory: &S) -> Stereo<i32>
+    // One tick over a memory. Answers what each voice contributes. Each has a line of its own: from a loop the contributions
+    // would go through memory, and their sums would have to wait for that.
+    pub fn tick<S: Source>(&mut self, memory: &S) -> [Contribution; 8]
         ensures exact { self.new ≡ ticked (S.bytes memory.now) self.old }
-        ensures totals { result ≡ sums self.new.voices }
-        ensures bounded { AllBounded self.new.voices }
+        ensures told { result ≡ latest self.new }
+        ensures bounded { AllBounded result }
     {
-        let mut left = 0;
-        let mut right = 0;
-        for (k, voice) in self.voices.iter_mut().enumerate() {
-            voice.tick(memory, sounds(self.control.on, self.channel, k));
-            left += i32::from(voice.latest.left);
-            right += i32::from(voice.latest.right);
-        }
-        Stereo { left, right }
+        [
+            self.tick_voice(memory, 0),
+            self.tick_voice(memory, 1),
+            self.tick_voice(memory, 2),
+            self.tick_voice(memory, 3),
+            self.tick_voice(memory, 4),
+            self.tick_voice(memory, 5),
+            self.tick_voice(memory, 6),
+            self.tick_voice(memory, 7),
+        ]
+    }
+
+    // One tick of voice `k`, from 0. Answers what it contributes.
+    #[tactic(auto, using(crate::proofs::Each::one_set))]
+    fn tick_voice<S: Source>(&mut self, memory: &S, k: usize) -> Contribution
+        requires { k < 8 }
+        ensures exact { self.new ≡ voice_ticked (S.bytes memory.now) k self.old }
+        ensures told { result ≡ (slice_index_or self.new.voices k fresh).latest }
+        ensures bounded { Bounded result }
+    {
+        let on = sounds(self.control.on, self.channel, k);
+        self.voices[k].tick(memory, on);
+        self.voices[k].latest
     }
 
     // What each voice contributed in the last tick.
     pub fn latest(&self) -> [Contribution; 8]
         ensures { result ≡ latest self.now }
     {
-        self.voices.map(|voice| voice.latest)
+        latest(&self.voices)
     }
 }
 

@@ -16,7 +16,7 @@ use register_log::reader::Reader;
 use register_log::record::Record;
 use voice::frame::{Converter, Frame, limit};
 use voice::stereo::Stereo;
-use voice::voice::{Contribution, Voice};
+use voice::voice::{Contribution, Voice, latest};
 use wave::rom::Rom;
 
 // Whether each example comes to what is known of it. The contract has that the rules give it.
@@ -78,7 +78,7 @@ fn totals() -> bool
 fn total(voices: &[Voice; 8]) -> i32
     ensures { result ≡ total voices.now }
 {
-    Frame::new(voices, Converter::Bits16).left.total
+    Frame::new(&latest(voices), Converter::Bits16).left.total
 }
 
 fn positions() -> bool

@@ -1,16 +1,15 @@
 -- Contributions one by one, and their sum.
-use Rattle.std.proofs.Common.{◌≡◌, ℕ, zero, suc, ◌+◌, ◌*◌, ◌<◌, ◌≤◌, List, [], ◌∷◌, length, get_or, set, take, ℤ, pos, ◌+ℤ◌, neg_ℤ, ◌≤ℤ◌, sym, ap, ◌∙◌, add-one, arith}
+use Rattle.std.proofs.Common.{◌≡◌, ℕ, zero, suc, ◌+◌, ◌*◌, ◌<◌, List, [], ◌∷◌, length, get_or, take, ℤ, pos, ◌+ℤ◌, neg_ℤ, ◌≤ℤ◌, sym, ap, ◌∙◌, add-one, arith}
 use lib.IntN.{+ℤ_comm, +ℤ_assoc}
 use Rattle.std.proofs.ByRecursion.{All-map, All-weaker}
 use Rattle.std.proofs.lemmas.Int.{ints}
-use Rattle.std.proofs.lemmas.List.{length-map, take_all}
+use Rattle.std.proofs.lemmas.List.{length-map}
 use Rattle.voice.specs.Voice.{Contribution, loudest, Within, Bounded}
 use Rattle.voice.specs.Stereo.{of_side}
-use Rattle.voice.specs.Frame.{contributions, sum, side, frame, TotalWithin, AllWithin, RangedSide, Ranged, AllBounded}
+use Rattle.voice.specs.Frame.{shares, sum, side, frame_of, TotalWithin, AllWithin, AllBounded, RangedSide, Ranged}
 use Rattle.voice.specs.declared.frame.Converter.{Converter}
 use Rattle.voice.specs.declared.stereo.SideName.{SideName}
 use Rattle.voice.specs.declared.stereo.SideName.TheVariants.{Left, Right}
-use Rattle.voice.specs.declared.voice.Voice.{Voice}
 
 sum-suc : (xs : List ℤ) (k : ℕ) → k < length xs → sum (take (suc k) xs) ≡ sum (take k xs) +ℤ get_or xs k (pos 0)
 sum-suc [] k h = absurd (omega arith)
@@ -27,10 +26,9 @@ side_within : (name : SideName) (x : Contribution) → Bounded x → Within (of_
 side_within Left x h = h.0
 side_within Right x h = h.1
 
-contributions_within : (name : SideName) (voices : List Voice) → AllBounded voices → AllWithin (contributions name voices)
-contributions_within name voices h =
-    All-map Within (λ v. of_side name v.latest) voices
-    (All-weaker (λ v. Bounded v.latest) (λ v. Within (of_side name v.latest)) (λ v. side_within name v.latest) voices h)
+shares_within : (name : SideName) (heard : List Contribution) → AllBounded heard → AllWithin (shares name heard)
+shares_within name heard h =
+    All-map Within (λ c. of_side name c) heard (All-weaker Bounded (λ c. Within (of_side name c)) (λ c. side_within name c) heard h)
 
 sum_range :
     (xs : List ℤ) → AllWithin xs →
@@ -47,42 +45,12 @@ sum_within xs l h =
     (omega (arith, ints), omega (arith, ints))
 
 side_ranged :
-    (k : Converter) (name : SideName) (voices : List Voice) → length voices ≡ 8 → AllBounded voices →
-    RangedSide (side k (contributions name voices) (sum (contributions name voices)))
-side_ranged k name voices l h =
-    let within = contributions_within name voices h in
-    (within, sum_within (contributions name voices) (omega (arith, length-map voices (λ (v : Voice). of_side name v.latest))) within)
+    (k : Converter) (name : SideName) (heard : List Contribution) → length heard ≡ 8 → AllBounded heard →
+    RangedSide (side k (shares name heard))
+side_ranged k name heard l h =
+    let within = shares_within name heard h in
+    (within, sum_within (shares name heard) (omega (arith, length-map heard (λ (c : Contribution). of_side name c))) within)
 
-pub frame_ranged : (k : Converter) (voices : List Voice) → length voices ≡ 8 → AllBounded voices → Ranged (frame k voices)
-frame_ranged k voices l h = (side_ranged k Left voices l h, side_ranged k Right voices l h)
-
--- Totals that grow by a voice at a time
-
--- the sum of the first voices, in the range of so many
-abbrev pub Counted : SideName → ℕ → List Voice → ℤ → Type 0
-Counted name k voices t =
-    (t ≡ sum (contributions name (take k voices))) × (neg_ℤ (pos (loudest * k)) ≤ℤ t) × (t ≤ℤ pos (loudest * k))
-
-sum_put :
-    (name : SideName) (voices : List Voice) (k : ℕ) (v : Voice) → k < length voices →
-    sum (contributions name (take (suc k) (set voices k v))) ≡ sum (contributions name (take k voices)) +ℤ of_side name v.latest
-sum_put name [] k v h = absurd (omega arith)
-sum_put name (x ∷ xs) zero v h = +ℤ_comm (of_side name v.latest) (pos 0)
-sum_put name (x ∷ xs) (suc k) v h =
-    ap (λ s. of_side name x.latest +ℤ s) (sum_put name xs k v (omega arith))
-    ∙ sym (+ℤ_assoc (of_side name x.latest) (sum (contributions name (take k xs))) (of_side name v.latest))
-
--- one voice more
-pub count_more :
-    (name : SideName) (voices : List Voice) (k : ℕ) (v : Voice) (t u : ℤ) → k < length voices → Bounded v.latest →
-    Counted name k voices t → u ≡ t +ℤ of_side name v.latest → Counted name (k + 1) (set voices k v) u
-count_more name voices k v t u h b c e =
-    let within = side_within name v.latest b in (
-      rw add-one (e ∙ ap (λ s. s +ℤ of_side name v.latest) c.0 ∙ sym (sum_put name voices k v h)),
-      omega (arith, ints),
-      omega (arith, ints),
-    )
-
--- all of them
-pub count_all : (name : SideName) (voices : List Voice) (k : ℕ) (t : ℤ) → length voices ≤ k → Counted name k voices t → t ≡ sum (contributions name voices)
-count_all name voices k t h c = c.0 ∙ ap (λ (vs : List Voice). sum (contributions name vs)) (take_all k voices h)
+-- a frame of contributions in range
+pub frame_ranged : (k : Converter) (heard : List Contribution) → length heard ≡ 8 → AllBounded heard → Ranged (frame_of k heard)
+frame_ranged k heard l h = (side_ranged k Left heard l h, side_ranged k Right heard l h)

@@ -2,7 +2,7 @@
 use Rattle.std.specs.Prelude.{ℕ, ◌+◌, ◌-◌, ◌/◌, cond, List, [], ◌∷◌, map, ℤ, pos, negsuc, ◌+ℤ◌, neg_ℤ, ◌≤ℤ◌, int_lt}
 use Rattle.std.specs.List.{AllByRecursion}
 use Rattle.voice.specs.Stereo.{of_side}
-use Rattle.voice.specs.Voice.{Within, Bounded}
+use Rattle.voice.specs.Voice.{Contribution, latest, Within, Bounded}
 use Rattle.voice.specs.declared.voice.Voice.{Voice}
 use Rattle.voice.specs.declared.frame.Converter.{Converter}
 use Rattle.voice.specs.declared.frame.Converter.TheVariants.{Bits16, Bits10, Bits8}
@@ -11,9 +11,13 @@ use Rattle.voice.specs.declared.stereo.SideName.{SideName}
 use Rattle.voice.specs.declared.stereo.SideName.TheVariants.{Left, Right}
 use Rattle.voice.specs.declared.stereo.Stereo.{Stereo}
 
+-- what eight voices contribute to one side
+abbrev pub shares : SideName → List Contribution → List ℤ
+shares name heard = map (λ c. of_side name c) heard
+
 -- the latest contributions of voices to one side
 abbrev pub contributions : SideName → List Voice → List ℤ
-contributions name voices = map (λ v. of_side name v.latest) voices
+contributions name voices = shares name (latest voices)
 
 -- the exact sum
 abbrev pub sum : List ℤ → ℤ
@@ -47,24 +51,19 @@ word Bits16 v = twos v
 word Bits10 v = height v / 64
 word Bits8 v = height v / 256
 
--- one side of a frame: its total is limited once
-abbrev pub side : Converter → List ℤ → ℤ → Side
-side k xs total = record { contributions = xs; total = total; word = word k (limited total) }
+-- one side of a frame: limited once, after the sum
+abbrev pub side : Converter → List ℤ → Side
+side k xs = record { contributions = xs; total = sum xs; word = word k (limited (sum xs)) }
 
 abbrev pub Frame : Type 0
 Frame = Stereo Side
 
--- the frame of voices' contributions for totals that are known
-abbrev pub frame_of : Converter → List Voice → Stereo ℤ → Frame
-frame_of k voices totals =
-    record { left = side k (contributions Left voices) totals.left; right = side k (contributions Right voices) totals.right }
-
--- the sums of what voices contribute
-abbrev pub sums : List Voice → Stereo ℤ
-sums voices = record { left = sum (contributions Left voices); right = sum (contributions Right voices) }
+-- the frame of what eight voices contribute
+abbrev pub frame_of : Converter → List Contribution → Frame
+frame_of k heard = record { left = side k (shares Left heard); right = side k (shares Right heard) }
 
 abbrev pub frame : Converter → List Voice → Frame
-frame k voices = frame_of k voices (sums voices)
+frame k voices = frame_of k (latest voices)
 
 -- the totals of a frame, before the limiter
 abbrev pub totals : Frame → Stereo ℤ
@@ -82,13 +81,12 @@ TotalWithin z = (neg_ℤ (pos fullest) ≤ℤ z) × (z ≤ℤ pos fullest)
 abbrev pub AllWithin : List ℤ → Type 0
 AllWithin xs = AllByRecursion Within xs
 
+abbrev pub AllBounded : List Contribution → Type 0
+AllBounded heard = AllByRecursion Bounded heard
+
 -- a side whose contributions and total are in range
 abbrev pub RangedSide : Side → Type 0
 RangedSide s = AllWithin s.contributions × TotalWithin s.total
 
 abbrev pub Ranged : Frame → Type 0
 Ranged f = RangedSide f.left × RangedSide f.right
-
--- each voice's latest contribution is in range
-abbrev pub AllBounded : List Voice → Type 0
-AllBounded voices = AllByRecursion (λ v. Bounded v.latest) voices

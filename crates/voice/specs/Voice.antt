@@ -1,5 +1,5 @@
 -- A voice: where it stands and reads, what it contributes, and what a tick makes of it.
-use Rattle.std.specs.Prelude.{ℕ, ◌+◌, ◌*◌, ◌/◌, ◌%◌, Bool, cond, List, ℤ, pos, neg_ℤ, ◌≤ℤ◌, Some, None, Option, ◌==◌, nat_lt, slice_index}
+use Rattle.std.specs.Prelude.{ℕ, ◌+◌, ◌*◌, ◌/◌, ◌%◌, Bool, cond, List, map, ℤ, pos, neg_ℤ, ◌≤ℤ◌, Some, None, Option, ◌==◌, nat_lt, slice_index}
 use Rattle.wave.specs.Search.{stop}
 use Rattle.voice.specs.declared.voice.Settings.{Settings}
 use Rattle.voice.specs.declared.stereo.Stereo.{Stereo}
@@ -74,6 +74,10 @@ level b env c = cond (nat_lt b 128) (neg_ℤ (pos (size b env c))) (pos (size b 
 -- what a voice contributes that has landed on a byte, be it another stop byte
 abbrev pub heard : Settings → ℕ → Contribution
 heard s b = record { left = level b s.env (s.pan % 16); right = level b s.env (s.pan / 16) }
+
+-- the latest contributions of voices
+abbrev pub latest : List Voice → List Contribution
+latest voices = map (λ v. v.latest) voices
 
 abbrev pub silence : Contribution
 silence = record { left = pos 0; right = pos 0 }

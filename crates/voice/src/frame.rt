@@ -1,10 +1,10 @@
 // The frame of a tick: what eight voices contribute to each side, their total, and its word.
 ghost use Rattle.std.specs.Prelude.{◌≡◌};
-ghost use Rattle.voice.specs.Frame.{contributions, sum, limited, height, word, side, frame_of, sums, frame, totals};
-ghost use Rattle.voice.specs.Frame.{Ranged, AllBounded};
+ghost use Rattle.voice.specs.Frame.{shares, sum, limited, height, word, side, frame_of, totals};
+ghost use Rattle.voice.specs.Frame.{AllBounded, Ranged};
 
 use crate::stereo::{SideName, Stereo};
-use crate::voice::Voice;
+use crate::voice::Contribution;
 
 // The range of a limited total.
 pub(crate) const LOWEST: i32 = -32_768;
@@ -33,34 +33,14 @@ pub struct Side {
 pub type Frame = Stereo<Side>;
 
 impl Stereo<Side> {
-    // The frame of the latest contributions.
-    pub fn new(voices: &[Voice; 8], converter: Converter) -> Frame
-        ensures exact { result ≡ frame converter voices.now }
-        ensures ranged { AllBounded voices.now → Ranged result }
-    {
-        let totals = Stereo {
-            left: sum(&contributions(voices, SideName::Left)),
-            right: sum(&contributions(voices, SideName::Right)),
-        };
-        Frame::of_totals(voices, totals, converter)
-    }
-
-    // The frame of the latest contributions for totals that are known, so that they are not summed again.
-    pub fn of_totals(voices: &[Voice; 8], totals: Stereo<i32>, converter: Converter) -> Frame
-        ensures exact { result ≡ frame_of converter voices.now totals }
-        ensures ranged { AllBounded voices.now → totals ≡ sums voices.now → Ranged result }
+    // The frame of what eight voices contribute: each side's total is the sum of its array.
+    pub fn new(heard: &[Contribution; 8], converter: Converter) -> Frame
+        ensures exact { result ≡ frame_of converter heard.now }
+        ensures ranged { AllBounded heard.now → Ranged result }
     {
         Frame {
-            left: new_side(
-                contributions(voices, SideName::Left),
-                totals.left,
-                converter,
-            ),
-            right: new_side(
-                contributions(voices, SideName::Right),
-                totals.right,
-                converter,
-            ),
+            left: new_side(contributions(heard, SideName::Left), converter),
+            right: new_side(contributions(heard, SideName::Right), converter),
         }
     }
 
@@ -75,9 +55,10 @@ impl Stereo<Side> {
     }
 }
 
-fn new_side(contributions: [i16; 8], total: i32, converter: Converter) -> Side
-    ensures { result ≡ side converter contributions total }
+fn new_side(contributions: [i16; 8], converter: Converter) -> Side
+    ensures { result ≡ side converter contributions }
 {
+    let total = sum(&contributions);
     Side {
         contributions,
         total,
@@ -85,10 +66,10 @@ fn new_side(contributions: [i16; 8], total: i32, converter: Converter) -> Side
     }
 }
 
-fn contributions(voices: &[Voice; 8], name: SideName) -> [i16; 8]
-    ensures { result ≡ contributions name voices.now }
+fn contributions(heard: &[Contribution; 8], name: SideName) -> [i16; 8]
+    ensures { result ≡ shares name heard.now }
 {
-    voices.map(|voice| voice.latest.of_side(name))
+    heard.map(|contribution| contribution.of_side(name))
 }
 
 // A loop and no `sum()`: that of signed numbers asks a bound which no chain shows, and the loop's invariant does.
@@ -132,18 +113,16 @@ fn height(level: i16) -> u16
 #[cfg(test)]
 mod tests {
     use super::*;
-    use crate::voice::Contribution;
 
     #[test]
     fn three_loud_voices(rt: HostRuntime) {
-        let mut voices = [Voice::new(); 8];
-        for voice in &mut voices[0..3] {
-            voice.latest = Contribution {
-                left: -15_180,
-                right: 0,
-            };
-        }
-        let frame = Frame::new(&voices, Converter::Bits16);
+        let loud = Contribution {
+            left: -15_180,
+            right: 0,
+        };
+        let quiet = Contribution::default();
+        let heard = [loud, loud, loud, quiet, quiet, quiet, quiet, quiet];
+        let frame = Frame::new(&heard, Converter::Bits16);
         assert_eq!(rt; frame.left.total, -45_540);
         assert_eq!(rt; limit(frame.left.total), -32_768);
         assert_eq!(rt; frame.left.word, 0x8000);

@@ -1,7 +1,7 @@
 // A voice: its seven register bytes, where it reads in a memory, and what it contributes to the two sides.
 ghost use Rattle.std.specs.Prelude.{◌≡◌, ◌<◌, ◌≤◌};
 ghost use Rattle.voice.specs.Voice.{positions, step, start, loop_start, position, onward, place, look, landing};
-ghost use Rattle.voice.specs.Voice.{product, size, level, heard, loudest, Within, Bounded, fresh, tick};
+ghost use Rattle.voice.specs.Voice.{product, size, level, heard, loudest, Within, Bounded, fresh, latest, tick};
 
 use crate::stereo::Stereo;
 use wave::memory::{Source, byte_at};
@@ -87,6 +87,13 @@ impl Voice {
             self.latest = Contribution::default();
         }
     }
+}
+
+// What each voice contributed in its last tick.
+pub fn latest(voices: &[Voice; 8]) -> [Contribution; 8]
+    ensures { result ≡ latest voices.now }
+{
+    voices.map(|voice| voice.latest)
 }
 
 impl Settings {

@@ -2,11 +2,11 @@ use Rattle.std.proofs.Common.{arith}
 use Rattle.std.proofs.lemmas.List.{length-map, get_or-map, ext_get_or}
 use Rattle.voice.specs.Voice.{fresh, silence, Contribution}
 use Rattle.voice.specs.declared.voice.Voice.{Voice}
-use Rattle.chip.proofs.registers.Registers.latest.Goals as goal
+use Rattle.voice.proofs.voice.latest.Goals as goal
 
 pub returns : goal.returns
 returns c =
-    let voices = c.args.self.now.voices in
+    let voices = c.args.voices.now in
     let part : Voice → Contribution = λ v. v.latest in
     let mapped = c.map.ensures.items in
     let long = mapped.long in
