@@ -1,5 +1,5 @@
 -- What is saved is loaded again.
-use Rattle.std.proofs.Common.{◌≡◌, ℕ, Bool, true, false, not, ◌==◌, List, [], ◌∷◌, map, Some, None, Option, refl, ap, arith}
+use Rattle.std.proofs.Common.{◌≡◌, ℕ, Bool, true, false, List, [], ◌∷◌, map, Some, None, Option, is_some, unwrap_or, refl, ap, arith}
 use Rattle.kind.specs.declared.Kind.{Kind}
 use Rattle.kind.specs.declared.Kind.TheVariants.{Rf5c68a, Rf5c164}
 use Rattle.wave.specs.declared.memory.Refusal.TheVariants.{ReadOnly, PastEnd}
@@ -16,7 +16,8 @@ use Rattle.player.specs.declared.fault.Fault.TheVariants.{Log, Chip}
 use Rattle.player.specs.declared.player.State.{State}
 use Rattle.player.specs.declared.player.State.TheVariants.{Between, Waiting, Ended, Faulted}
 use Rattle.exported.specs.Logs.{kind_of}
-use Rattle.exported.specs.States.{set, flag, or_zero, present, converter_of, converter_bits, voice_of, saved_voice, registers_of, saved_chip, fault_of, stand_of, saved_player}
+use Rattle.exported.specs.Numbers.{flag, is_set, present}
+use Rattle.exported.specs.States.{converter_of, converter_bits, voice_of, saved_voice, registers_of, saved_chip, fault_of, stand_of, saved_player}
 
 kind_back : (k : Kind) → kind_of (kind_number k) ≡ k
 kind_back Rf5c68a = refl
@@ -27,7 +28,7 @@ converter_back Bits16 = refl
 converter_back Bits10 = refl
 converter_back Bits8 = refl
 
-phase_back : (p : Option ℕ) → present (flag p) (or_zero p) ≡ p
+phase_back : (p : Option ℕ) → present (flag (is_some p)) (unwrap_or p 0) ≡ p
 phase_back None = refl
 phase_back (Some n) = refl
 
@@ -38,7 +39,7 @@ voices_back : (vs : List Voice) → map voice_of (map saved_voice vs) ≡ vs
 voices_back [] = refl
 voices_back (v ∷ vs) = grind (arith, voice_back v, voices_back vs)
 
-on_back : (b : Bool) → not (set b == 0) ≡ b
+on_back : (b : Bool) → is_set (flag b) ≡ b
 on_back true = refl
 on_back false = refl
 

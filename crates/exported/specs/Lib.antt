@@ -1,3 +1,4 @@
+pub mod Numbers
 pub mod Frames
 pub mod Logs
 pub mod Plays

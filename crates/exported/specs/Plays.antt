@@ -8,16 +8,29 @@ use Rattle.player.specs.Step.{Stand, Stepped, step}
 use Rattle.player.specs.declared.fault.Fault.{Fault}
 use Rattle.player.specs.declared.player.Progress.{Progress}
 use Rattle.player.specs.declared.player.Progress.TheVariants.{Taken, Ticked, Ended}
+use Rattle.exported.specs.Numbers.{no_refusal}
 use Rattle.exported.specs.Frames.{totals_of, words_of}
 use Rattle.exported.specs.declared.frames.Totals.{Totals}
 use Rattle.exported.specs.declared.frames.Words.{Words}
 use Rattle.exported.specs.declared.plays.StepAnswer.{StepAnswer}
 
+-- what a step came to, by number
+abbrev pub progress_number : Result Progress Fault → ℕ
+progress_number (Ok Taken) = 0
+progress_number (Ok Ticked) = 1
+progress_number (Ok (Ended b)) = 2
+progress_number (Err fault) = 3
+
+-- a step that found no fault, at a bit
+abbrev pub progress_answer : ℕ → Progress → StepAnswer
+progress_answer b progress = record { bit = b; address = 0; progress = progress_number (Ok progress); number = no_refusal }
+
 abbrev pub step_answer : Result Progress Fault → StepAnswer
-step_answer (Ok Taken) = record { bit = 0; address = 0; progress = 0; number = 0 }
-step_answer (Ok Ticked) = record { bit = 0; address = 0; progress = 1; number = 0 }
-step_answer (Ok (Ended b)) = record { bit = b; address = 0; progress = 2; number = 0 }
-step_answer (Err fault) = record { bit = bit fault; address = address fault; progress = 3; number = number fault }
+step_answer (Ok Taken) = progress_answer 0 Taken
+step_answer (Ok Ticked) = progress_answer 0 Ticked
+step_answer (Ok (Ended b)) = progress_answer b (Ended b)
+step_answer (Err fault) =
+    record { bit = bit fault; address = address fault; progress = progress_number (Err fault); number = number fault }
 
 -- how far it has come, and what the buffers hold
 pub record Stage : Type 0 where

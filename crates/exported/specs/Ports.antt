@@ -7,6 +7,7 @@ use Rattle.chip.specs.Port.{State}
 use Rattle.chip.specs.Refusal.{number}
 use Rattle.chip.specs.declared.refusal.Refusal.{Refusal}
 use Rattle.chip.specs.declared.registers.Registers.{Registers}
+use Rattle.exported.specs.Numbers.{no_refusal}
 use Rattle.exported.specs.States.{registers_of}
 use Rattle.exported.specs.Frames.{frame_of}
 use Rattle.exported.specs.declared.states.ChipState.{ChipState}
@@ -25,11 +26,11 @@ abbrev pub ram_of : List ℕ → State → List ℕ
 ram_of lent s = take (length (used lent)) s.memory.bytes
 
 abbrev pub refusal_number : Result (Unit {0}) Refusal → ℕ
-refusal_number (Ok u) = 0
+refusal_number (Ok u) = no_refusal
 refusal_number (Err refusal) = number refusal
 
 abbrev pub read_answer : Result ℕ Refusal → ReadAnswer
-read_answer (Ok byte) = record { refusal = 0; byte = byte }
+read_answer (Ok byte) = record { refusal = no_refusal; byte = byte }
 read_answer (Err refusal) = record { refusal = number refusal; byte = 0 }
 
 -- a frame after a tick: filled where it was granted

@@ -1,5 +1,5 @@
 -- The states that a caller's numbers stand for, and the numbers that a state is saved as.
-use Rattle.std.specs.Prelude.{ℕ, ℤ, Bool, true, false, cond, not, ◌&&◌, List, map, Some, None, Option, ◌==◌, nat_le}
+use Rattle.std.specs.Prelude.{ℕ, ℤ, false, cond, List, [], ◌∷◌, find, map, Some, None, Option, is_some, unwrap_or, ◌==◌}
 use Rattle.wave.specs.declared.memory.Refusal.TheVariants.{ReadOnly, PastEnd}
 use Rattle.voice.specs.Stereo.{of_side}
 use Rattle.voice.specs.Voice.{Contribution}
@@ -7,10 +7,12 @@ use Rattle.voice.specs.declared.voice.Voice.{Voice}
 use Rattle.voice.specs.declared.frame.Converter.{Converter}
 use Rattle.voice.specs.declared.frame.Converter.TheVariants.{Bits16, Bits10, Bits8}
 use Rattle.voice.specs.declared.stereo.SideName.{SideName}
+use Rattle.chip.specs.Refusal.{number as chip-number}
 use Rattle.chip.specs.declared.refusal.Refusal.{Refusal}
 use Rattle.chip.specs.declared.refusal.Refusal.TheVariants.{MemorySize, BeyondPort, NothingThere, Sounding, PastWindow, Memory}
 use Rattle.chip.specs.declared.registers.Registers.{Registers}
 use Rattle.chip.specs.declared.registers.Setup.{Setup}
+use Rattle.register_log.specs.Fault.{number as log-number}
 use Rattle.register_log.specs.Header.{kind_number}
 use Rattle.register_log.specs.declared.fault.Fault.{Fault as LogFault}
 use Rattle.register_log.specs.declared.fault.Fault.TheVariants.{Length, Header, Cut, Tag, Range, Padding}
@@ -20,36 +22,25 @@ use Rattle.player.specs.declared.fault.Fault.{Fault}
 use Rattle.player.specs.declared.fault.Fault.TheVariants.{Log, Chip}
 use Rattle.player.specs.declared.player.State.{State}
 use Rattle.player.specs.declared.player.State.TheVariants.{Between, Waiting, Ended, Faulted}
+use Rattle.exported.specs.Numbers.{no_refusal, flag, is_set, present}
 use Rattle.exported.specs.Logs.{kind_of}
 use Rattle.exported.specs.declared.states.VoiceState.{VoiceState}
 use Rattle.exported.specs.declared.states.ChipState.{ChipState}
 use Rattle.exported.specs.declared.states.PlayerState.{PlayerState}
 
-abbrev pub set : Bool → ℕ
-set false = 0
-set true = 1
-
--- whether there is one
-abbrev pub flag : Option ℕ → ℕ
-flag None = 0
-flag (Some n) = 1
-
-abbrev pub or_zero : Option ℕ → ℕ
-or_zero None = 0
-or_zero (Some n) = n
-
-abbrev pub present : ℕ → ℕ → Option ℕ
-present there n = cond (there == 0) None (Some n)
-
 -- Chips
-
-abbrev pub converter_of : ℕ → Converter
-converter_of bits = cond (bits == 8) Bits8 (cond (bits == 10) Bits10 Bits16)
 
 abbrev pub converter_bits : Converter → ℕ
 converter_bits Bits16 = 16
 converter_bits Bits10 = 10
 converter_bits Bits8 = 8
+
+abbrev pub converters : List Converter
+converters = Bits16 ∷ Bits10 ∷ Bits8 ∷ []
+
+-- the converter of so many bits, and that of 16 where none has so many
+abbrev pub converter_of : ℕ → Converter
+converter_of bits = unwrap_or (find (λ converter. converter_bits converter == bits) converters) Bits16
 
 abbrev pub voice_of : VoiceState → Voice
 voice_of v =
@@ -62,10 +53,10 @@ voice_of v =
 abbrev pub saved_voice : Voice → VoiceState
 saved_voice v =
     record {
-      phase = or_zero v.phase;
+      phase = unwrap_or v.phase 0;
       left = v.latest.left;
       right = v.latest.right;
-      sounding = flag v.phase;
+      sounding = flag (is_some v.phase);
       env = v.settings.env;
       pan = v.settings.pan;
       fdl = v.settings.fdl;
@@ -82,7 +73,7 @@ abbrev pub registers_of : ChipState → Registers
 registers_of c =
     record {
       setup = setup_of c.kind c.converter c.mutes;
-      control = record { on = not (c.on == 0); bank = c.bank; selected = c.selected };
+      control = record { on = is_set c.on; bank = c.bank; selected = c.selected };
       channel = c.channel;
       voices = map voice_of c.voices;
     }
@@ -94,7 +85,7 @@ saved_chip r =
       kind = kind_number r.setup.kind;
       converter = converter_bits r.setup.converter;
       mutes = r.setup.mutes;
-      on = set r.control.on;
+      on = flag r.control.on;
       bank = r.control.bank;
       selected = r.control.selected;
       channel = r.channel;
@@ -106,30 +97,40 @@ side_contributions name list = map (λ c. of_side name c) list
 
 -- Players
 
-abbrev pub log_fault_of : ℕ → LogFault
-log_fault_of n =
-    cond (n == 7) Length (cond (n == 8) Header (cond (n == 9) Cut (cond (n == 10) Tag (cond (n == 11) Range Padding))))
+abbrev pub log_faults : List LogFault
+log_faults = Length ∷ Header ∷ Cut ∷ Tag ∷ Range ∷ Padding ∷ []
 
-abbrev pub chip_refusal_of : ℕ → Refusal
-chip_refusal_of n =
-    cond (n == 1) MemorySize
-    (cond (n == 2) BeyondPort
-    (cond (n == 3) NothingThere
-    (cond (n == 4) Sounding
-    (cond (n == 5) (Memory ReadOnly)
-    (cond (n == 6) (Memory PastEnd) PastWindow)))))
+-- the fault of a log that has this number, if one has it
+abbrev pub log_fault_of : ℕ → Option LogFault
+log_fault_of n = find (λ fault. log-number fault == n) log_faults
 
--- the numbers from 7 to 12 are a log's
+abbrev pub chip_refusals : List Refusal
+chip_refusals = MemorySize ∷ BeyondPort ∷ NothingThere ∷ Sounding ∷ PastWindow ∷ Memory ReadOnly ∷ Memory PastEnd ∷ []
+
+-- the refusal of a chip that has this number, if one has it
+abbrev pub chip_refusal_of : ℕ → Option Refusal
+chip_refusal_of n = find (λ refusal. chip-number refusal == n) chip_refusals
+
+-- a log's fault where one has the number, and else a chip's refusal; a number that none has is one past the window
+abbrev pub by_layer : Option LogFault → PlayerState → Fault
+by_layer (Some fault) p = Log fault p.bit
+by_layer None p = Chip (unwrap_or (chip_refusal_of p.number) PastWindow) p.bit (present p.has_address p.address)
+
 abbrev pub fault_of : PlayerState → Fault
-fault_of p =
-    cond (nat_le 7 p.number && nat_le p.number 12) (Log (log_fault_of p.number) p.bit)
-    (Chip (chip_refusal_of p.number) p.bit (present p.has_address p.address))
+fault_of p = by_layer (log_fault_of p.number) p
 
+abbrev pub state_number : State → ℕ
+state_number Between = 0
+state_number (Waiting b left) = 1
+state_number (Ended b) = 2
+state_number (Faulted fault) = 3
+
+-- the states in the order of their numbers; any other number is a fault's
 abbrev pub state_of : PlayerState → State
 state_of p =
-    cond (p.state == 0) Between
-    (cond (p.state == 1) (Waiting p.bit p.ticks)
-    (cond (p.state == 2) (Ended p.bit) (Faulted (fault_of p))))
+    cond (state_number Between == p.state) Between
+    (cond (state_number (Waiting p.bit p.ticks) == p.state) (Waiting p.bit p.ticks)
+    (cond (state_number (Ended p.bit) == p.state) (Ended p.bit) (Faulted (fault_of p))))
 
 abbrev pub stand_of : PlayerState → Stand
 stand_of p = standing p.place (state_of p)
@@ -139,12 +140,25 @@ abbrev pub address_of : Fault → Option ℕ
 address_of (Log fault place) = None
 address_of (Chip refusal place at) = at
 
+-- a player that has no fault, by its place, state, bit and ticks
+abbrev pub saved_faultless : ℕ → State → ℕ → ℕ → PlayerState
+saved_faultless place s b left =
+    record { place = place; bit = b; ticks = left; address = 0; state = state_number s; number = no_refusal; has_address = flag false }
+
 abbrev pub saved_player : ℕ → State → PlayerState
-saved_player place Between = record { place = place; bit = 0; ticks = 0; address = 0; state = 0; number = 0; has_address = 0 }
-saved_player place (Waiting b left) = record { place = place; bit = b; ticks = left; address = 0; state = 1; number = 0; has_address = 0 }
-saved_player place (Ended b) = record { place = place; bit = b; ticks = 0; address = 0; state = 2; number = 0; has_address = 0 }
+saved_player place Between = saved_faultless place Between 0 0
+saved_player place (Waiting b left) = saved_faultless place (Waiting b left) b left
+saved_player place (Ended b) = saved_faultless place (Ended b) b 0
 saved_player place (Faulted f) =
-    record { place = place; bit = bit f; ticks = 0; address = address f; state = 3; number = number f; has_address = flag (address_of f) }
+    record {
+      place = place;
+      bit = bit f;
+      ticks = 0;
+      address = address f;
+      state = state_number (Faulted f);
+      number = number f;
+      has_address = flag (is_some (address_of f));
+    }
 
 -- what is saved of a player
 abbrev pub saved_stand : Stand → PlayerState

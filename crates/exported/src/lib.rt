@@ -4,6 +4,7 @@
 pub mod frames;
 pub mod logs;
 pub(crate) mod memories;
+pub(crate) mod numbers;
 pub mod plays;
 pub mod ports;
 pub mod states;

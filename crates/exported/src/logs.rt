@@ -8,6 +8,7 @@ ghost use Rattle.register_log.specs.declared.fault.Fault.{Fault as FaultValue};
 ghost use Rattle.whole_log.specs.Outcome.{outcome, recorded, finished, recording, copied};
 ghost use Rattle.exported.specs.Logs.{kind_of, header_answer, header_of, part, entry_of, recorded_answer};
 
+use crate::numbers::NO_REFUSAL;
 use kind::Kind;
 use register_log::header::Header;
 use register_log::record::Record;
@@ -34,6 +35,15 @@ pub struct Recorded {
     pub refusal: u8,
     pub length: usize,
 }
+
+// The tags of records, by which their numbers are told apart.
+const REGISTER: u8 = 1;
+
+const WINDOW: u8 = 2;
+
+const WAIT: u8 = 3;
+
+const BLOCK: u8 = 4;
 
 // A record by numbers.
 #[repr(C)]
@@ -63,16 +73,16 @@ impl FlatRecord {
             count,
         } = self;
         match tag {
-            1 => Record::Register {
+            REGISTER => Record::Register {
                 address: value.min(255) as u8,
                 byte,
             },
-            2 => Record::Window {
+            WINDOW => Record::Window {
                 offset: value,
                 byte,
             },
-            3 => Record::Wait { ticks: value },
-            4 => Record::Block {
+            WAIT => Record::Wait { ticks: value },
+            BLOCK => Record::Block {
                 offset: value,
                 bytes: part(bytes, start, count),
             },
@@ -96,7 +106,11 @@ fn part(bytes: &[u8], start: usize, count: usize) -> &[u8]
 pub(crate) fn kind_of(number: u8) -> Kind
     ensures { result ≡ kind_of number }
 {
-    Kind::from(number != 0)
+    if number == kind_number(Kind::Rf5c68a) {
+        Kind::Rf5c68a
+    } else {
+        Kind::Rf5c164
+    }
 }
 
 pub(crate) fn kind_number(kind: Kind) -> u8
@@ -111,7 +125,7 @@ pub fn check_header(log: &[u8]) -> HeaderAnswer
 {
     match Header::read(log) {
         Ok(header) => HeaderAnswer {
-            refusal: 0,
+            refusal: NO_REFUSAL,
             kind: kind_number(header.kind),
             clock: header.clock,
         },
@@ -190,7 +204,10 @@ fn answer(recorded: Result<usize, Refusal>) -> Recorded
     ensures { result ≡ recorded_answer «recorded» }
 {
     match recorded {
-        Ok(length) => Recorded { refusal: 0, length },
+        Ok(length) => Recorded {
+            refusal: NO_REFUSAL,
+            length,
+        },
         Err(refusal) => Recorded {
             refusal: refusal.number(),
             length: 0,

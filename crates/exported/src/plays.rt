@@ -9,12 +9,22 @@ ghost use Rattle.exported.specs.Plays.{step_answer, stage, begun, outcome, playi
 
 use crate::frames::{Totals, Words};
 use crate::memories::resume;
+use crate::numbers::NO_REFUSAL;
 use crate::states::{ChipState, PlayerState};
 use chip::chip::Chip;
 use player::fault::Fault;
 use player::player::{Player, Progress};
 use voice::frame::Frame;
 use wave::memory::Store;
+
+// What a player's step came to, by number.
+const TAKEN: u8 = 0;
+
+const TICKED: u8 = 1;
+
+const ENDED: u8 = 2;
+
+const FAULT: u8 = 3;
 
 // What a player's step came to.
 #[repr(C)]
@@ -41,27 +51,27 @@ pub struct Played {
 fn step_answer(answer: Result<Progress, Fault>) -> StepAnswer
     ensures { result ≡ step_answer answer }
 {
-    let none = StepAnswer {
+    let taken = StepAnswer {
         bit: 0,
         address: 0,
-        progress: 0,
-        number: 0,
+        progress: TAKEN,
+        number: NO_REFUSAL,
     };
     match answer {
-        Ok(Progress::Taken) => none,
+        Ok(Progress::Taken) => taken,
         Ok(Progress::Ticked) => StepAnswer {
-            progress: 1,
-            ..none
+            progress: TICKED,
+            ..taken
         },
         Ok(Progress::Ended(bit)) => StepAnswer {
             bit,
-            progress: 2,
-            ..none
+            progress: ENDED,
+            ..taken
         },
         Err(fault) => StepAnswer {
             bit: fault.bit(),
             address: fault.address(),
-            progress: 3,
+            progress: FAULT,
             number: fault.number(),
         },
     }

@@ -8,6 +8,7 @@ ghost use Rattle.exported.specs.Ports.{bytes_of, chip_over, ram_of, refusal_numb
 
 use crate::frames::Frame;
 use crate::memories::{resume, resume_reading};
+use crate::numbers::NO_REFUSAL;
 use crate::states::ChipState;
 use chip::refusal::Refusal;
 use voice::frame::Frame as VoiceFrame;
@@ -25,7 +26,7 @@ fn refusal_number(answer: Result<(), Refusal>) -> u8
     ensures { result ≡ refusal_number answer }
 {
     match answer {
-        Ok(()) => 0,
+        Ok(()) => NO_REFUSAL,
         Err(refusal) => refusal.number(),
     }
 }
@@ -69,7 +70,10 @@ pub fn read(chip: &ChipState, ram: &[u8], rom: &[u8], address: u16) -> ReadAnswe
     ensures { result ≡ read_answer (read (bytes_of ram.now rom.now) (registers_of chip.now) address) }
 {
     match resume_reading(chip, ram, rom).read(address) {
-        Ok(byte) => ReadAnswer { refusal: 0, byte },
+        Ok(byte) => ReadAnswer {
+            refusal: NO_REFUSAL,
+            byte,
+        },
         Err(refusal) => ReadAnswer {
             refusal: refusal.number(),
             byte: 0,

@@ -1,11 +1,12 @@
 // A chip's registers and a player's stand as numbers, which a caller keeps from one call to the next.
-ghost use Rattle.std.specs.Prelude.{◌≡◌, map};
+ghost use Rattle.std.specs.Prelude.{◌≡◌, is_some, map};
 ghost use Rattle.player.specs.Step.{new, standing};
 ghost use Rattle.chip.specs.Registers.{made, reset, latest};
-ghost use Rattle.exported.specs.States.{converter_of, voice_of, saved_voice, setup_of, registers_of, saved_chip, chip_refusal_of, log_fault_of, address_of, fault_of, state_of, stand_of, saved_player, saved_stand, flag, side_contributions};
+ghost use Rattle.exported.specs.States.{converter_of, voice_of, saved_voice, setup_of, registers_of, saved_chip, chip_refusal_of, log_fault_of, address_of, fault_of, state_of, stand_of, saved_player, saved_stand, side_contributions};
 ghost use Rattle.voice.specs.declared.stereo.SideName.TheVariants.{Left, Right};
 
 use crate::logs::{kind_number, kind_of};
+use crate::numbers::{NO_REFUSAL, is_set};
 use chip::chip::Chip;
 use chip::control::Control;
 use chip::refusal::Refusal;
@@ -47,10 +48,7 @@ impl VoiceState {
             latest,
         } = voice;
         VoiceState {
-            phase: match phase {
-                None => 0,
-                Some(p) => p,
-            },
+            phase: phase.unwrap_or(0),
             left: latest.left,
             right: latest.right,
             sounding: u8::from(phase.is_some()),
@@ -77,11 +75,7 @@ impl VoiceState {
                 lsh: self.lsh,
                 st: self.st,
             },
-            phase: if self.sounding == 0 {
-                None
-            } else {
-                Some(self.phase)
-            },
+            phase: is_set(self.sounding).then_some(self.phase),
             latest: Contribution {
                 left: self.left,
                 right: self.right,
@@ -166,7 +160,7 @@ impl ChipState {
                 mutes: self.mutes,
             },
             control: Control {
-                on: self.on != 0,
+                on: is_set(self.on),
                 bank: self.bank,
                 selected: self.selected,
             },
@@ -209,15 +203,27 @@ fn of_side(latest: &[Contribution; 8], name: SideName) -> [i16; 8]
     latest.map(|contribution| contribution.of_side(name))
 }
 
+const CONVERTERS: [Converter; 3] = [Converter::Bits16, Converter::Bits10, Converter::Bits8];
+
+// The converter of so many bits, and that of 16 where none has so many.
 fn converter_of(bits: u8) -> Converter
     ensures { result ≡ converter_of bits }
 {
-    match bits {
-        8 => Converter::Bits8,
-        10 => Converter::Bits10,
-        _ => Converter::Bits16,
-    }
+    CONVERTERS
+        .iter()
+        .copied()
+        .find(|converter| *converter as u8 == bits)
+        .unwrap_or(Converter::Bits16)
 }
+
+// A player's states, by number.
+const BETWEEN: u8 = 0;
+
+const WAITING: u8 = 1;
+
+const ENDED: u8 = 2;
+
+const FAULTED: u8 = 3;
 
 // Where a player stands in its log.
 #[repr(C)]
@@ -258,29 +264,29 @@ impl PlayerState {
             bit: 0,
             ticks: 0,
             address: 0,
-            state: 0,
-            number: 0,
-            has_address: 0,
+            state: BETWEEN,
+            number: NO_REFUSAL,
+            has_address: u8::from(false),
         };
         match state {
             State::Between => between,
             State::Waiting { bit, left } => PlayerState {
                 bit,
                 ticks: left,
-                state: 1,
+                state: WAITING,
                 ..between
             },
             State::Ended(bit) => PlayerState {
                 bit,
-                state: 2,
+                state: ENDED,
                 ..between
             },
             State::Faulted(fault) => PlayerState {
                 bit: fault.bit(),
                 address: fault.address(),
-                state: 3,
+                state: FAULTED,
                 number: fault.number(),
-                has_address: has_address(fault),
+                has_address: u8::from(has_address(fault)),
                 ..between
             },
         }
@@ -290,12 +296,12 @@ impl PlayerState {
         ensures { result ≡ state_of self.now }
     {
         match self.state {
-            0 => State::Between,
-            1 => State::Waiting {
+            BETWEEN => State::Between,
+            WAITING => State::Waiting {
                 bit: self.bit,
                 left: self.ticks,
             },
-            2 => State::Ended(self.bit),
+            ENDED => State::Ended(self.bit),
             _ => State::Faulted(self.fault()),
         }
     }
@@ -304,59 +310,64 @@ impl PlayerState {
         ensures { result ≡ fault_of self.now }
     {
         let bit = self.bit;
-        if (7..=12).contains(&self.number) {
-            return Fault::Log {
-                fault: log_fault_of(self.number),
+        match log_fault_of(self.number) {
+            Some(fault) => Fault::Log { fault, bit },
+            None => Fault::Chip {
+                refusal: chip_refusal_of(self.number).unwrap_or(Refusal::PastWindow),
                 bit,
-            };
-        }
-        Fault::Chip {
-            refusal: chip_refusal_of(self.number),
-            bit,
-            address: if self.has_address == 0 {
-                None
-            } else {
-                Some(self.address)
+                address: is_set(self.has_address).then_some(self.address),
             },
         }
     }
 }
 
-fn has_address(fault: Fault) -> u8
-    ensures { result ≡ flag (address_of fault) }
+fn has_address(fault: Fault) -> bool
+    ensures { result ≡ is_some (address_of fault) }
 {
-    match fault {
-        Fault::Log { .. } | Fault::Chip { address: None, .. } => 0,
+    matches!(
+        fault,
         Fault::Chip {
             address: Some(_),
             ..
-        } => 1,
-    }
+        }
+    )
 }
 
-fn log_fault_of(number: u8) -> LogFault
+const LOG_FAULTS: [LogFault; 6] = [
+    LogFault::Length,
+    LogFault::Header,
+    LogFault::Cut,
+    LogFault::Tag,
+    LogFault::Range,
+    LogFault::Padding,
+];
+
+// The fault of a log that has this number, if one has it.
+fn log_fault_of(number: u8) -> Option<LogFault>
     ensures { result ≡ log_fault_of number }
 {
-    match number {
-        7 => LogFault::Length,
-        8 => LogFault::Header,
-        9 => LogFault::Cut,
-        10 => LogFault::Tag,
-        11 => LogFault::Range,
-        _ => LogFault::Padding,
-    }
+    LOG_FAULTS
+        .iter()
+        .copied()
+        .find(|fault| fault.number() == number)
 }
 
-fn chip_refusal_of(number: u8) -> Refusal
+const CHIP_REFUSALS: [Refusal; 7] = [
+    Refusal::MemorySize,
+    Refusal::BeyondPort,
+    Refusal::NothingThere,
+    Refusal::Sounding,
+    Refusal::PastWindow,
+    Refusal::Memory(MemoryRefusal::ReadOnly),
+    Refusal::Memory(MemoryRefusal::PastEnd),
+];
+
+// The refusal of a chip that has this number, if one has it.
+fn chip_refusal_of(number: u8) -> Option<Refusal>
     ensures { result ≡ chip_refusal_of number }
 {
-    match number {
-        1 => Refusal::MemorySize,
-        2 => Refusal::BeyondPort,
-        3 => Refusal::NothingThere,
-        4 => Refusal::Sounding,
-        5 => Refusal::Memory(MemoryRefusal::ReadOnly),
-        6 => Refusal::Memory(MemoryRefusal::PastEnd),
-        _ => Refusal::PastWindow,
-    }
+    CHIP_REFUSALS
+        .iter()
+        .copied()
+        .find(|refusal| refusal.number() == number)
 }

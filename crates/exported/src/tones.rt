@@ -3,6 +3,7 @@ ghost use Rattle.std.specs.Prelude.{◌≡◌};
 ghost use Rattle.pitch.specs.Pitch.{fd};
 ghost use Rattle.exported.specs.Tones.{fd_answer};
 
+use crate::numbers::NO_REFUSAL;
 use pitch::Tone;
 
 // The FD of a tone, or why it has none.
@@ -24,7 +25,10 @@ pub fn fd(frequency: u32, clock: u32, words: u32) -> FdAnswer
         words,
     };
     match tone.fd() {
-        Ok(fd) => FdAnswer { refusal: 0, fd },
+        Ok(fd) => FdAnswer {
+            refusal: NO_REFUSAL,
+            fd,
+        },
         Err(refusal) => FdAnswer {
             refusal: refusal.number(),
             fd: 0,
