@@ -1,3 +1,4 @@
+pub mod Endings
 pub mod Texts
 pub mod Pieces
 pub mod Outputs

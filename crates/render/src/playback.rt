@@ -1,15 +1,17 @@
 // A log that is played on a chip, as the text of its ticks: piece by piece, into a lent buffer.
-ghost use Rattle.std.specs.Prelude.{◌≡◌, ◌+◌, ◌<◌, ◌≤◌, ◌++◌, length, take, drop, None};
+ghost use Rattle.std.specs.Prelude.{◌≡◌, ◌+◌, ◌<◌, ◌≤◌, List, ◌++◌, length, take, drop, Some, None, IfSome};
 ghost use Rattle.lines.specs.Line.{longest};
+ghost use Rattle.voice.specs.Frame.{Frame as FrameValue};
 ghost use Rattle.player.specs.Step.{stand, new};
 ghost use Rattle.chip.specs.Chip.{state};
-ghost use Rattle.render.specs.Text.{text, closed};
+ghost use Rattle.render.specs.Text.{text, tick_lines, closed};
+ghost use Rattle.render.specs.Last.{ending};
 ghost use Rattle.render.specs.Playback.{rest};
 
 use crate::last::Last;
 use chip::chip::Chip;
 use lines::line::{LONGEST, put_tick};
-use player::player::{Player, Progress};
+use player::player::{Player, Progress, State};
 use voice::frame::Frame;
 use wave::memory::Store;
 
@@ -37,36 +39,41 @@ impl<'a, M: Store> Playback<'a, M> {
     }
 
     // Plays on, and writes the lines of the ticks to the buffer's front, until the player stops or the buffer has no room
-    // for a longest line. Once the player has stopped, each piece is empty and has the last line again.
+    // for a longest line. Once the player has stopped nothing changes any more, and each piece is empty and has the last
+    // line again, whatever room the buffer has.
     pub fn fill(&mut self, buffer: &mut [u8]) -> Piece
         ensures text { rest M.bytes M.takes self.old
             ≡ take result.length buffer.new ++ closed result.last (rest M.bytes M.takes self.new) }
+        ensures whole { (frames : List FrameValue) × (take result.length buffer.new ≡ tick_lines frames) }
         ensures beyond { drop result.length buffer.new ≡ drop result.length buffer.old }
         ensures within { result.length ≤ length buffer.old }
         ensures full { result.last ≡ None → length buffer.old < result.length + longest }
+        ensures last { result.last ≡ ending self.new.player.state }
+        ensures stopped { IfSome (ending self.old.player.state) (λ last.
+            (result ≡ record { length = 0; last = Some last }) × (self.new ≡ self.old) × (buffer.new ≡ buffer.old)) }
+        ensures same_borrows { M.borrows self.new.chip.memory ≡ M.borrows self.old.chip.memory }
     {
         let mut frame = Frame::default();
         let mut length = 0;
-        while buffer.len() - length >= LONGEST {
-            match self.player.step(&mut self.chip, &mut frame) {
-                Ok(Progress::Taken) => {}
-                Ok(Progress::Ticked) => {
-                    length = put_tick(buffer, length, frame.left.total, frame.right.total);
-                }
-                Ok(Progress::Ended(_)) => {
-                    return Piece {
-                        length,
-                        last: Some(Last::End),
-                    };
-                }
-                Err(fault) => {
-                    return Piece {
-                        length,
-                        last: Some(Last::Fault(fault)),
-                    };
-                }
+        while self.ending().is_none() && buffer.len() - length >= LONGEST {
+            if let Ok(Progress::Ticked) = self.player.step(&mut self.chip, &mut frame) {
+                length = put_tick(buffer, length, frame.left.total, frame.right.total);
             }
         }
-        Piece { length, last: None }
+        Piece {
+            length,
+            last: self.ending(),
+        }
+    }
+
+    // How the playing has ended, if it has.
+    fn ending(&self) -> Option<Last>
+        ensures { result ≡ ending self.now.player.state }
+    {
+        match self.player.state() {
+            State::Between | State::Waiting { .. } => None,
+            State::Ended(_) => Some(Last::End),
+            State::Faulted(fault) => Some(Last::Fault(fault)),
+        }
     }
 }
