@@ -30,7 +30,8 @@ pub struct Piece {
 
 impl<'a, M: Store> Playback<'a, M> {
     pub fn new(chip: Chip<M>, log: &'a [u8]) -> Playback<'a, M>
-        ensures { rest M.bytes M.takes result ≡ text log.now (state M.bytes M.takes chip) new }
+        ensures text { rest M.bytes M.takes result ≡ text log.now (state M.bytes M.takes chip) new }
+        ensures same_borrows { M.borrows result.chip.memory ≡ M.borrows chip.memory }
     {
         Playback {
             chip,

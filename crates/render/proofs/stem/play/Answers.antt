@@ -17,6 +17,6 @@ returns g c =
       c.deref_mut-2.ensures.value,
       c.in_ok-second.ensures,
     )
-    at c.new-playback.ensures in
+    at c.new-playback.ensures.text in
     subst (λ t. OnOk c.write_out.result (Appends (g.W.Write.contents c.args.output.now) (g.W.Write.contents c.write_out.new.output) t)) text
     c.write_out.ensures
