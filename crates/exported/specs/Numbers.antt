@@ -5,11 +5,12 @@ use Rattle.std.specs.Prelude.{ℕ, Bool, true, false, cond, not, Option, Some, N
 abbrev pub no_refusal : ℕ
 no_refusal = 0
 
+-- the number of no, and that of yes
 abbrev pub flag : Bool → ℕ
 flag false = 0
 flag true = 1
 
--- any number but that of no stands for yes
+-- any number but that of no is yes
 abbrev pub is_set : ℕ → Bool
 is_set number = not (number == flag false)
 

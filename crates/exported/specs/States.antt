@@ -30,6 +30,7 @@ use Rattle.exported.specs.declared.states.PlayerState.{PlayerState}
 
 -- Chips
 
+-- the bits of a word, which are a converter's number
 abbrev pub converter_bits : Converter → ℕ
 converter_bits Bits16 = 16
 converter_bits Bits10 = 10
@@ -119,13 +120,14 @@ by_layer None p = Chip (unwrap_or (chip_refusal_of p.number) PastWindow) p.bit (
 abbrev pub fault_of : PlayerState → Fault
 fault_of p = by_layer (log_fault_of p.number) p
 
+-- the number of each state
 abbrev pub state_number : State → ℕ
 state_number Between = 0
 state_number (Waiting b left) = 1
 state_number (Ended b) = 2
 state_number (Faulted fault) = 3
 
--- the states in the order of their numbers; any other number is a fault's
+-- the state that has the number, and a fault's where no other has it
 abbrev pub state_of : PlayerState → State
 state_of p =
     cond (state_number Between == p.state) Between
