@@ -37,15 +37,24 @@ pub record State : Type 0 where
 abbrev pub state : ℕ → List ℕ → State
 state place buffer = record { place = place; buffer = buffer }
 
+-- a place, if a log whose records end there has room
+abbrev pub reached : ℕ → ℕ → Result ℕ Refusal
+reached capacity place = cond (roomy capacity place) (Ok place) (Err NoRoom)
+
+-- where the records end after a header, and after one more record, in a buffer of so many bytes
+abbrev pub header_placed : ℕ → Header → Result ℕ Refusal
+header_placed capacity header = cond (header_fits header) (reached capacity records_start) (Err (Log WrongField))
+
+abbrev pub record_placed : ℕ → ℕ → Entry → Result ℕ Refusal
+record_placed capacity place entry = cond (fits entry) (reached capacity (after place entry)) (Err (Log Range))
+
+-- fields and the end, written from a place on, if the records have a place where they end then
+abbrev pub stored : List ℕ → ℕ → List Field → Result ℕ Refusal → Result State Refusal
+stored buffer place fields (Ok end) = Ok (state end (written buffer place (fields ++ end_fields)))
+stored buffer place fields (Err refusal) = Err refusal
+
 abbrev pub begun : List ℕ → Header → Result State Refusal
-begun buffer header =
-    cond (header_fits header)
-    (cond (roomy (length buffer) records_start) (Ok (state records_start (written buffer 0 (header_fields header ++ end_fields)))) (Err NoRoom))
-    (Err (Log WrongField))
+begun buffer header = stored buffer 0 (header_fields header) (header_placed (length buffer) header)
 
 abbrev pub added : State → Entry → Result State Refusal
-added s entry =
-    let end : ℕ = after s.place entry in
-    cond (fits entry)
-    (cond (roomy (length s.buffer) end) (Ok (state end (written s.buffer s.place (fields s.place entry ++ end_fields)))) (Err NoRoom))
-    (Err (Log Range))
+added s entry = stored s.buffer s.place (fields s.place entry) (record_placed (length s.buffer) s.place entry)

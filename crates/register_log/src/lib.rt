@@ -5,6 +5,7 @@ mod bit_reader;
 mod bit_writer;
 pub mod fault;
 pub mod header;
+pub mod layout;
 pub mod reader;
 pub mod record;
 pub mod recording;

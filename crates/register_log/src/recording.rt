@@ -10,117 +10,86 @@ ghost use Rattle.register_log.specs.BitWriter.{Wrote};
 ghost use Rattle.register_log.specs.declared.header.Header.{Header as HeaderValue};
 
 use crate::bit_writer::BitWriter;
-use crate::fault::Fault;
-use crate::header::{Header, MOST, RECORDS};
+use crate::header::Header;
+use crate::layout::Layout;
 use crate::record::{ADDRESS_BITS, BYTE_BITS, LENGTH_BITS, OFFSET_BITS, Record, TICKS_BITS};
 use crate::refusal::Refusal;
 use crate::tag::{self, Tag};
 
 // A log that is being written into a buffer. It holds a number alone, and the buffer is lent anew at each call, so that
-// others can look at the log while it grows. The records so far end at the place.
+// others can look at the log while it grows. The records so far end where its layout says.
 // A recording is closed or abandoned, and cannot be let go otherwise.
 pub struct Recording {
-    place: usize,
-    ghost short: { place ≤ 8 * most },
+    layout: Layout,
 }
 
 impl Recording {
     // Writes a header.
     pub fn begin(header: Header, buffer: &mut [u8]) -> Result<Recording, Refusal>
         ensures outcome { MatchResult result
-            (λ recording. begun buffer.old header ≡ Ok (state recording.place buffer.new))
+            (λ recording. begun buffer.old header ≡ Ok (state recording.layout.place buffer.new))
             (λ refusal. (begun buffer.old header ≡ Err refusal) × (buffer.new ≡ buffer.old)) }
-        ensures whole { IfOk result (λ recording. Whole (state recording.place buffer.new) header []) }
+        ensures whole { IfOk result (λ recording. Whole (state recording.layout.place buffer.new) header []) }
     {
-        if !header.kind.clock_fits(header.clock) {
-            return Err(Fault::Header.into());
-        }
-        if !has_room(buffer.len(), RECORDS) {
-            return Err(Refusal::NoRoom);
-        }
-        Ok(Recording::start(header, buffer))
-    }
-
-    fn start(header: Header, buffer: &mut [u8]) -> Recording
-        requires fits { header_fits header ≡ true }
-        requires room { roomy (length buffer.old) records_start ≡ true }
-        ensures place { result.place ≡ records_start }
-        ensures buffer { buffer.new ≡ written buffer.old 0 (header_fields header ++ end_fields) }
-        ensures whole { Whole (state result.place buffer.new) header [] }
-    {
-        let mut writer = BitWriter { buffer, place: 0 };
-        write_header(&mut writer, header);
-        writer.put(tag::BITS, Tag::End as u32);
-        Recording { place: RECORDS }
+        let layout = Layout::begin(header, buffer.len())?;
+        start(header, buffer);
+        Ok(Recording { layout })
     }
 
     // Adds a record. If the buffer holds the log of some records before, it holds that of one more afterwards.
     pub fn add(&mut self, record: &Record<'_>, buffer: &mut [u8]) -> Result<(), Refusal>
-        ensures answer { result ≡ granted (added (state self.old.place buffer.old) (values «record».now)) }
-        ensures after { state self.new.place buffer.new
-            ≡ kept (state self.old.place buffer.old)
-            (added (state self.old.place buffer.old) (values «record».now)) }
+        ensures answer { result
+            ≡ granted (added (state self.old.layout.place buffer.old) (values «record».now)) }
+        ensures after { state self.new.layout.place buffer.new
+            ≡ kept (state self.old.layout.place buffer.old)
+            (added (state self.old.layout.place buffer.old) (values «record».now)) }
         ensures whole { IfOk result (λ _.
-            (h : HeaderValue) (entries : List Entry) → Whole (state self.old.place buffer.old) h entries →
-            Whole (state self.new.place buffer.new) h (entries ++ values «record».now ∷ [])) }
+            (h : HeaderValue) (entries : List Entry) → Whole (state self.old.layout.place buffer.old) h entries →
+            Whole (state self.new.layout.place buffer.new) h (entries ++ values «record».now ∷ [])) }
     {
-        if !record.fits() {
-            return Err(Fault::Range.into());
-        }
-        if !has_room(buffer.len(), self.place + record.width(self.place)) {
-            return Err(Refusal::NoRoom);
-        }
-        self.put(record, buffer);
+        let Layout { place } = self.layout;
+        self.layout.add(record, buffer.len())?;
+        put(record, buffer, place);
         Ok(())
-    }
-
-    // Writes a record that fits, and the end after it: `add` has tested what this and `write_record` ask.
-    fn put(&mut self, record: &Record<'_>, buffer: &mut [u8])
-        requires fits { fits (values «record».now) ≡ true }
-        requires room { roomy (length buffer.old) (after self.old.place (values «record».now)) ≡ true }
-        ensures place { self.new.place ≡ after self.old.place (values «record».now) }
-        ensures buffer { buffer.new
-            ≡ written buffer.old self.old.place (fields self.old.place (values «record».now) ++ end_fields) }
-        ensures whole { (h : HeaderValue) (entries : List Entry) → Whole (state self.old.place buffer.old) h entries →
-            Whole (state self.new.place buffer.new) h (entries ++ values «record».now ∷ []) }
-    {
-        let mut writer = BitWriter {
-            buffer,
-            place: self.place,
-        };
-        write_record(&mut writer, record);
-        self.place = writer.place;
-        writer.put(tag::BITS, Tag::End as u32);
     }
 
     // The length of the log in bytes.
     pub fn close(self) -> usize
-        ensures { result ≡ log_length self.place }
+        ensures { result ≡ log_length self.layout.place }
     {
-        let Recording { place } = self;
-        log_length(place)
+        let Recording { layout } = self;
+        layout.length()
     }
 
     pub fn abandon(self) {
-        let Recording { place: _ } = self;
+        let Recording { layout: _ } = self;
     }
 }
 
-// Whether a log whose records end at a place fits a buffer, and is none too long.
-fn has_room(capacity: usize, place: usize) -> bool
-    requires { place ≤ 16 * most }
-    ensures { result ≡ roomy capacity place }
+// Writes a header that fits, and the end after it.
+fn start(header: Header, buffer: &mut [u8])
+    requires fits { header_fits header ≡ true }
+    requires room { roomy (length buffer.old) records_start ≡ true }
+    ensures buffer { buffer.new ≡ written buffer.old 0 (header_fields header ++ end_fields) }
+    ensures whole { Whole (state records_start buffer.new) header [] }
 {
-    let length = log_length(place);
-    length <= capacity && length <= MOST
+    let mut writer = BitWriter { buffer, place: 0 };
+    write_header(&mut writer, header);
+    writer.put(tag::BITS, Tag::End as u32);
 }
 
-// How many bytes a log has whose records end at a place.
-fn log_length(place: usize) -> usize
-    requires { place ≤ 16 * most }
-    ensures { result ≡ log_length place }
+// Writes a record that fits at a place, and the end after it: `add` has tested what this and `write_record` ask.
+fn put(record: &Record<'_>, buffer: &mut [u8], place: usize)
+    requires fits { fits (values «record».now) ≡ true }
+    requires room { roomy (length buffer.old) (after place (values «record».now)) ≡ true }
+    requires small { place ≤ 8 * most }
+    ensures buffer { buffer.new ≡ written buffer.old place (fields place (values «record».now) ++ end_fields) }
+    ensures whole { (h : HeaderValue) (entries : List Entry) → Whole (state place buffer.old) h entries →
+        Whole (state (after place (values «record».now)) buffer.new) h (entries ++ values «record».now ∷ []) }
 {
-    (place + tag::BITS).div_ceil(8)
+    let mut writer = BitWriter { buffer, place };
+    write_record(&mut writer, record);
+    writer.put(tag::BITS, Tag::End as u32);
 }
 
 fn write_header(writer: &mut BitWriter<'_>, header: Header)

@@ -1,7 +1,7 @@
 use Rattle.std.proofs.Common.{◌≡◌, refl, sym, ◌∙◌, rules}
 use Rattle.register_log.proofs.Packing.{wrote_then}
 use Rattle.register_log.proofs.Whole.{fit_header, whole_begun}
-use Rattle.register_log.proofs.recording.Recording.start.Goals as goal
+use Rattle.register_log.proofs.recording.start.Goals as goal
 
 pub returns : goal.returns
 returns c =
@@ -11,7 +11,6 @@ returns c =
     let lender = sym all.lender in
     let last : _ ≡ c.put.new.self.buffer.now = search rules in
     record {
-      place = refl;
       buffer = last ∙ all.buffer;
       whole = whole_begun buffer _ 32 h c.requires.fits refl (last ∙ all.buffer);
     }
