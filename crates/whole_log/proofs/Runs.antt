@@ -1,15 +1,17 @@
 -- Steps of a recording, in the words of its outcome.
-use Rattle.std.proofs.Common.{◌≡◌, ℕ, zero, suc, ◌+◌, ◌-◌, ◌*◌, ◌<◌, ◌≤◌, List, ◌∷◌, map, length, get_or, drop, Ok, Err, Option, Result, sym, refl, ap, arith}
+use Rattle.std.proofs.Common.{◌≡◌, ℕ, zero, suc, ◌+◌, ◌-◌, ◌*◌, ◌<◌, ◌≤◌, List, ◌∷◌, length, get_or, drop, Some, None, Ok, Err, Option, Result, sym, refl, ap, ◌∙◌, ⊎_elim, arith}
 use Rattle.std.proofs.lemmas.List.{drop_more}
+use Rattle.std.proofs.lemmas.Option.{slice_get_within, get_or_from_slice_get, slice_get_cases}
+use Rattle.std.specs.List.{slice_get}
 use Rattle.outcome.specs.Outcome.{granted, kept}
 use Rattle.register_log.specs.Contents as contents
 use Rattle.register_log.specs.Contents.{Contents, one_more, reading}
 use Rattle.register_log.specs.Reading.{Found, end, found, decode}
-use Rattle.register_log.specs.Header.{records_start}
-use Rattle.register_log.specs.Record.{Entry, values}
+use Rattle.register_log.specs.Header.{header, records_start}
+use Rattle.register_log.specs.Record.{Entry}
 use Rattle.register_log.specs.Recording.{State, added}
 use Rattle.register_log.specs.declared.fault.Fault.{Fault}
-use Rattle.register_log.specs.declared.record.Record.{Record}
+use Rattle.register_log.specs.declared.header.Header.{Header}
 use Rattle.register_log.specs.declared.refusal.Refusal.{Refusal}
 use Rattle.register_log.proofs.Decoding.{Sound, sound}
 use Rattle.register_log.proofs.Whole.{after_more}
@@ -36,8 +38,17 @@ pub recorded_refused :
 recorded_refused entry rest fault s next refusal g k = grind (arith, when_refused)
 
 -- the next record of a list
-pub next_record : (records : List Record) (i : ℕ) (d : Record) → i < length records → map values (drop i records) ≡ values (get_or records i d) ∷ map values (drop (i + 1) records)
-next_record records i d l = grind (arith, drop_more)
+pub next_entry : (entries : List Entry) (i : ℕ) (entry : Entry) → Some entry ≡ slice_get entries i → drop i entries ≡ entry ∷ drop (i + 1) entries
+next_entry entries i entry e =
+    let within = slice_get_within entries i entry (sym e) in
+    let found_there = get_or_from_slice_get entries i entry entry (sym e) in
+    grind (arith, drop_more)
+
+-- there is one before the end
+pub no_entry : (entries : List Entry) (i : ℕ) → None ≡ slice_get entries i → length entries ≤ i
+no_entry entries i e =
+    let cases = slice_get_cases entries i in
+    ⊎_elim (λ w. let h = e ∙ w.2 in cc) (λ w. w.0) cases.1
 
 -- The contents of a log from a place on
 
@@ -66,6 +77,10 @@ same_rest log small (suc m) zero place a b = absurd (omega arith)
 same_rest log small (suc m) (suc n) place a b =
     same_onward log place (reading m log) (reading n log) (λ next l k. same_rest log small m n next (omega arith) (omega arith)) (decode log place) (sound log place small)
 
+-- a log with a header
+pub header_long : (log : List ℕ) (h : Header) → header log ≡ Ok h → 4 ≤ length log
+header_long log h e = grind arith
+
 -- by what stands at the place
 pub rest_step : (log : List ℕ) → ((k : ℕ) → get_or log k 0 < 256) → (place : ℕ) → rest_of log place ≡ contents.onward (rest_of log) (decode log place)
 unfolding reading
@@ -77,11 +92,3 @@ rest_start log small l = grind (arith, same_rest)
 -- the reader moves on
 pub found_later : (log : List ℕ) → ((k : ℕ) → get_or log k 0 < 256) → (place next : ℕ) (entry : Entry) → decode log place ≡ Ok (found entry next) → 8 * length log - next < 8 * length log - place
 found_later log small place next entry d = grind (arith, sound, after_more)
-
--- What is left to record, by what stands at the place
-
-pub rest_at :
-    (log : List ℕ) → ((k : ℕ) → get_or log k 0 < 256) → (place : ℕ) (d : Result Found Fault) → decode log place ≡ d → (s : State) →
-    recorded (rest_of log place).entries (rest_of log place).fault s
-    ≡ recorded (contents.onward (rest_of log) d).entries (contents.onward (rest_of log) d).fault s
-rest_at log small place d e s = grind (arith, rest_step)

@@ -15,6 +15,10 @@ use Rattle.whole_log.specs.Outcome.{Outcome}
 abbrev pub Begins : List ℕ → List ℕ → Header → List Entry → Type 0
 Begins before after h entries = (after ≡ log_of h entries ++ drop (length (log_of h entries)) before) × Reads (log_of h entries) h entries
 
+-- a header and records that a log can hold, and a buffer of so many bytes as well
+abbrev pub Recordable : ℕ → Header → List Entry → Type 0
+Recordable capacity h entries = (header_fits h ≡ true) × AllFit entries × (roomy capacity (end_of entries) ≡ true)
+
 -- why a header is refused
 abbrev pub HeaderRefused : ℕ → Header → Refusal → Type 0
 HeaderRefused capacity h refusal =
@@ -27,21 +31,24 @@ RecordRefused capacity done entry refusal =
     ((fits entry ≡ false) × (refusal ≡ Log Range))
     ⊎ ((fits entry ≡ true) × (roomy capacity (end_of (done ++ entry ∷ [])) ≡ false) × (refusal ≡ NoRoom))
 
+-- the first cause of a refusal: the header, a record after others that are recordable, or a fault after all of them
+abbrev pub Cause : ℕ → Header → List Entry → Option Fault → Refusal → Type 0
+Cause capacity h entries fault refusal =
+    HeaderRefused capacity h refusal
+    ⊎ (((done : List Entry) × (entry : Entry) × (rest : List Entry)
+    × (entries ≡ done ++ entry ∷ rest) × Recordable capacity h done × RecordRefused capacity done entry refusal)
+    ⊎ (Recordable capacity h entries × ((f : Fault) × (fault ≡ Some f) × (refusal ≡ Log f))))
+
 -- What a recording of a header and records leaves, where the records end or a fault stands in the place of the end.
 pub record Recorded (before : List ℕ) (h : Header) (entries : List Entry) (fault : Option Fault) (o : Outcome) : Type 0 where
   -- what a log can hold, and has room, is recorded
-  pub granted :
-      header_fits h ≡ true → AllFit entries → roomy (length before) (end_of entries) ≡ true → fault ≡ None →
-      o.answer ≡ Ok (length (log_of h entries))
+  pub granted : Recordable (length before) h entries → fault ≡ None → o.answer ≡ Ok (length (log_of h entries))
   -- a granted recording is the whole log
-  pub whole : (n : ℕ) → o.answer ≡ Ok n → (fault ≡ None) × (n ≡ length (log_of h entries)) × Begins before o.buffer h entries
-  -- a refusal has one of these causes: the header, a record, or that fault; the log up to there stands in the buffer
-  pub refused :
-      (refusal : Refusal) → o.answer ≡ Err refusal →
-      (HeaderRefused (length before) h refusal × (o.buffer ≡ before))
-      ⊎ (((done : List Entry) × (entry : Entry) × (rest : List Entry)
-      × (entries ≡ done ++ entry ∷ rest) × RecordRefused (length before) done entry refusal × Begins before o.buffer h done)
-      ⊎ ((f : Fault) × (fault ≡ Some f) × (refusal ≡ Log f) × Begins before o.buffer h entries))
+  pub whole :
+      (n : ℕ) → o.answer ≡ Ok n →
+      (fault ≡ None) × Recordable (length before) h entries × (n ≡ length (log_of h entries)) × Begins before o.buffer h entries
+  -- a refusal has one of these causes, and leaves the buffer
+  pub refused : (refusal : Refusal) → o.answer ≡ Err refusal → Cause (length before) h entries fault refusal × (o.buffer ≡ before)
 
 -- What copying a log leaves.
 pub record Copied (log before : List ℕ) (o : Outcome) : Type 0 where
@@ -54,7 +61,9 @@ pub record Copied (log before : List ℕ) (o : Outcome) : Type 0 where
       (h : Header) (entries : List Entry) → Reads log h entries →
       (header_fits h ≡ true) × AllFit entries × (log ≡ log_of h entries)
       × ((k : Header) (others : List Entry) → header_fits k ≡ true → AllFit others → log ≡ log_of k others → (k ≡ h) × (others ≡ entries))
-  -- a wrong header leaves the buffer
-  pub header : (fault : Fault) → header_of log ≡ Err fault → (o.answer ≡ Err (Log fault)) × (o.buffer ≡ before)
-  -- any other log is recorded as far as it goes
+  -- a refusal leaves the buffer
+  pub refused : (refusal : Refusal) → o.answer ≡ Err refusal → o.buffer ≡ before
+  -- a wrong header is refused with its fault
+  pub header : (fault : Fault) → header_of log ≡ Err fault → o.answer ≡ Err (Log fault)
+  -- any other log is recorded, with the fault at which reading stops
   pub recorded : (h : Header) → header_of log ≡ Ok h → Recorded before h (contents log).entries (contents log).fault o

@@ -1,5 +1,5 @@
 -- What comes of recording a list of records, or of copying a log.
-use Rattle.std.specs.Prelude.{ℕ, List, [], ◌∷◌, Some, None, Ok, Err, Option, Result}
+use Rattle.std.specs.Prelude.{ℕ, cond, is_ok, List, [], ◌∷◌, Some, None, Ok, Err, Option, Result}
 use Rattle.register_log.specs.Contents.{contents}
 use Rattle.register_log.specs.Header.{header as header_of}
 use Rattle.register_log.specs.Record.{Entry}
@@ -37,9 +37,17 @@ abbrev pub finished : Result (Unit {0}) Refusal → Option Fault → State → O
 finished (Ok u) fault s = closed fault s
 finished (Err refusal) fault s = outcome (Err refusal) s.buffer
 
+-- the single calls of a recording: a header, and records after it
+abbrev pub one_by_one : List ℕ → Header → List Entry → Option Fault → Outcome
+one_by_one buffer h entries fault = onward (recorded entries fault) buffer (begun buffer h)
+
+-- many calls as one: where one is refused, the buffer is as it was before all
+abbrev pub all_or_none : List ℕ → Outcome → Outcome
+all_or_none before o = outcome o.answer (cond (is_ok o.answer) o.buffer before)
+
 -- a header and records
 abbrev pub recording : List ℕ → Header → List Entry → Option Fault → Outcome
-recording buffer h entries fault = onward (recorded entries fault) buffer (begun buffer h)
+recording buffer h entries fault = all_or_none buffer (one_by_one buffer h entries fault)
 
 -- a log, by its header
 abbrev pub copied_under : List ℕ → List ℕ → Result Header Fault → Outcome

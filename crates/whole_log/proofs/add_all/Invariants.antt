@@ -1,13 +1,12 @@
-use Rattle.std.proofs.Common.{◌≡◌, map, drop, Option}
-use Rattle.register_log.specs.Record.{values}
+use Rattle.std.proofs.Common.{◌≡◌, drop, Option}
 use Rattle.register_log.specs.Recording.{state}
 use Rattle.register_log.specs.declared.fault.Fault.{Fault}
 use Rattle.whole_log.specs.Outcome.{recorded}
 use Rattle.whole_log.proofs.add_all.Given as goal
 
 -- what is left to add gives the same outcome
-abbrev pub invariant-loop-record : goal.invariant-loop-record
-invariant-loop-record l =
+abbrev pub invariant-loop-index : goal.invariant-loop-index
+invariant-loop-index g l =
     (fault : Option Fault) →
-    recorded (map values (drop l.record-index l.records)) fault (state l.recording.place l.buffer)
-    ≡ recorded (map values l.records) fault (state l.initial.recording.place l.initial.buffer)
+    recorded (drop l.index (g.R.Records.entries l.records)) fault (state l.recording.layout.place l.buffer)
+    ≡ recorded (g.R.Records.entries l.records) fault (state l.initial.recording.layout.place l.initial.buffer)
