@@ -1,4 +1,3 @@
 pub mod Boards
 pub mod Playing
-pub mod Runs
 pub mod Saved

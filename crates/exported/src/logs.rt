@@ -1,19 +1,17 @@
 // Logs over numbers: their headers, recordings and copies.
-ghost use Rattle.std.specs.Prelude.{◌≡◌, List, map, None, Option as Maybe};
+ghost use Rattle.std.specs.Prelude.{◌≡◌, map, None};
 ghost use Rattle.kind.specs.Kinds.{bit_of};
 ghost use Rattle.register_log.specs.Header.{header, kind_number};
 ghost use Rattle.register_log.specs.Record.{values};
-ghost use Rattle.register_log.specs.Recording.{state};
-ghost use Rattle.register_log.specs.declared.fault.Fault.{Fault as FaultValue};
-ghost use Rattle.whole_log.specs.Outcome.{outcome, recorded, finished, recording, copied};
+ghost use Rattle.whole_log.specs.Outcome.{recording, copied};
 ghost use Rattle.exported.specs.Logs.{kind_of, header_answer, header_of, part, entry_of, recorded_answer};
 
 use crate::numbers::NO_REFUSAL;
 use kind::Kind;
 use register_log::header::Header;
 use register_log::record::Record;
-use register_log::recording::Recording;
 use register_log::refusal::Refusal;
+use whole_log::records::Records;
 
 // A header's fields, or why it is refused.
 #[repr(C)]
@@ -91,6 +89,26 @@ impl FlatRecord {
     }
 }
 
+// Records in a row, with the lent bytes of which their blocks are parts.
+#[derive(Clone, Copy)]
+struct FlatRecords<'a> {
+    records: &'a [FlatRecord],
+    bytes: &'a [u8],
+}
+
+impl Records for FlatRecords<'_> {
+    ghost entries = { λ flat. map (entry_of flat.bytes.now) flat.records.now };
+
+    fn count(&self) -> usize {
+        self.records.len()
+    }
+
+    fn at(&self, index: usize) -> Option<Record<'_>> {
+        let record = self.records.get(index)?;
+        Some(record.record(self.bytes))
+    }
+}
+
 // So many of the bytes from a place on, or none where they are not all there.
 fn part(bytes: &[u8], start: usize, count: usize) -> &[u8]
     ensures { result.now ≡ part bytes.now start count }
@@ -155,41 +173,8 @@ pub fn record_log(
         kind: kind_of(kind),
         clock,
     };
-    answer(record_all(header, records, bytes, buffer))
-}
-
-fn record_all(
-    header: Header,
-    records: &[FlatRecord],
-    bytes: &[u8],
-    buffer: &mut [u8],
-) -> Result<usize, Refusal>
-    ensures { outcome result buffer.new ≡ recording buffer.old header (map (entry_of bytes.now) records.now) None }
-{
-    let mut recording = Recording::begin(header, buffer)?;
-    match add_all(&mut recording, records, bytes, buffer) {
-        Ok(()) => Ok(recording.close()),
-        Err(refusal) => {
-            recording.abandon();
-            Err(refusal)
-        }
-    }
-}
-
-fn add_all(
-    recording: &mut Recording,
-    records: &[FlatRecord],
-    bytes: &[u8],
-    buffer: &mut [u8],
-) -> Result<(), Refusal>
-    ensures { (fault : Maybe FaultValue) →
-        recorded (map (entry_of bytes.now) records.now) fault (state «recording».old.place buffer.old)
-        ≡ finished result fault (state «recording».new.place buffer.new) }
-{
-    for record in records {
-        recording.add(&record.record(bytes), buffer)?;
-    }
-    Ok(())
+    let records = FlatRecords { records, bytes };
+    answer(whole_log::record(header, records, buffer))
 }
 
 // Records a log again into a buffer.

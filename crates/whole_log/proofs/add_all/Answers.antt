@@ -28,5 +28,7 @@ loop-index-preserved g c = λ fault.
           grind (arith, recorded_granted)
       | in_default w ↦
           let past = no_entry entries c.loop-index.index (sym (ap (option_map values) w.in_default.is) ∙ c.at.ensures) in
-          absurd (omega (arith, c.loop-index-test.true, c.count-index-end.ensures))
+          let within = c.loop-index-test.true in
+          let end = c.count-index-end.ensures in
+          grind arith
     ]
