@@ -46,20 +46,12 @@ pub const FIVE_BYTES: &[u8] = &[
     0x01, 0x31, 0xFE, 0x00,
 ];
 
-// What four of the five leave.
-pub const FOUR_BYTES: &[u8] = &[
-    0x18, 0xBF, 0x0A, 0x40, 0x20, 0x00, 0xFF, 0xFF, 0xD0, 0x00, 0x7F, 0xC0, 0x01, 0x00, 0x10, 0x80,
-    0x01, 0x00,
-];
-
-// Headers alone.
+// A header alone.
 pub const BEGUN: &[u8] = &[0x10, 0x98, 0x96, 0x80, 0x00];
 
-pub const BEGUN_OTHER: &[u8] = &[0x18, 0xBF, 0x0A, 0x40, 0x00];
-
-// A header, records, the log of them, and the log without the last of them, which is what a buffer one byte too short has.
-const LOGS: [(Header, List, &[u8], &[u8]); 10] = [
-    (RF5C68A, &[], BEGUN, &[]),
+// A header, records, and the log of them.
+const LOGS: [(Header, List, &[u8]); 10] = [
+    (RF5C68A, &[], BEGUN),
     (
         Header {
             kind: Kind::Rf5c164,
@@ -67,13 +59,11 @@ const LOGS: [(Header, List, &[u8], &[u8]); 10] = [
         },
         &[Record::Wait { ticks: 1 }],
         &[0x18, 0x00, 0x00, 0x01, 0x60, 0x00, 0x20],
-        &[0x18, 0x00, 0x00, 0x01, 0x00],
     ),
     (
         RF5C164,
         &[Record::Wait { ticks: 65_535 }],
         &[0x18, 0xBF, 0x0A, 0x40, 0x7F, 0xFF, 0xE0],
-        BEGUN_OTHER,
     ),
     (
         RF5C68A,
@@ -82,7 +72,6 @@ const LOGS: [(Header, List, &[u8], &[u8]); 10] = [
             byte: 0xC0,
         }],
         &[0x10, 0x98, 0x96, 0x80, 0x2F, 0x80, 0x00],
-        BEGUN,
     ),
     (
         RF5C68A,
@@ -91,7 +80,6 @@ const LOGS: [(Header, List, &[u8], &[u8]); 10] = [
             byte: 0xA5,
         }],
         &[0x10, 0x98, 0x96, 0x80, 0x5F, 0xFF, 0x4A, 0x00],
-        BEGUN,
     ),
     (
         RF5C68A,
@@ -100,7 +88,6 @@ const LOGS: [(Header, List, &[u8], &[u8]); 10] = [
             byte: 0x00,
         }],
         &[0x10, 0x98, 0x96, 0x80, 0x40, 0x00, 0x00, 0x00],
-        BEGUN,
     ),
     (
         RF5C68A,
@@ -109,7 +96,6 @@ const LOGS: [(Header, List, &[u8], &[u8]); 10] = [
             bytes: &[0xAB],
         }],
         &[0x10, 0x98, 0x96, 0x80, 0x80, 0x00, 0x00, 0x00, 0xAB, 0x00],
-        BEGUN,
     ),
     (
         RF5C68A,
@@ -120,7 +106,6 @@ const LOGS: [(Header, List, &[u8], &[u8]); 10] = [
         &[
             0x10, 0x98, 0x96, 0x80, 0x9F, 0xFC, 0x00, 0x20, 0x12, 0x34, 0x00,
         ],
-        BEGUN,
     ),
     (
         RF5C68A,
@@ -135,9 +120,8 @@ const LOGS: [(Header, List, &[u8], &[u8]); 10] = [
             },
         ],
         &[0x10, 0x98, 0x96, 0x80, 0x31, 0xFE, 0x46, 0x04, 0x00],
-        &[0x10, 0x98, 0x96, 0x80, 0x31, 0xFE, 0x00],
     ),
-    (RF5C164, FIVE, FIVE_BYTES, FOUR_BYTES),
+    (RF5C164, FIVE, FIVE_BYTES),
 ];
 
 // A buffer that is longer than a log by so many bytes, all alike.
@@ -156,7 +140,7 @@ fn check_recorded(
 
 #[test]
 fn exact_bytes(rt: HostRuntime) -> Result<(), Fail> {
-    for (header, records, log, _) in LOGS {
+    for (header, records, log) in LOGS {
         for around in [(0, 0xEE), (0, 0x00), (0, 0xFF), (1, 0xEE), (9, 0xFF)] {
             check_recorded(&rt, rt.alloc(), (header, records, log), around)?;
         }
@@ -164,14 +148,15 @@ fn exact_bytes(rt: HostRuntime) -> Result<(), Fail> {
     Ok(())
 }
 
+// A refusal leaves the buffer, whatever records have room in it.
 #[test]
 fn one_byte_too_short(rt: HostRuntime) -> Result<(), Fail> {
-    for (header, records, log, shorter) in LOGS {
+    for (header, records, log) in LOGS {
         let length = log.len().saturating_sub(1);
         let mut buffer = vec![in rt.alloc(); 0xFFu8; length]?;
         let recorded = whole_log::record(header, records, buffer.as_mut_slice());
         assert_eq!(rt; recorded, Err(Refusal::NoRoom));
-        check_front(&rt, buffer.as_slice(), shorter, 0xFF);
+        check_front(&rt, buffer.as_slice(), &[], 0xFF);
     }
     Ok(())
 }
@@ -257,13 +242,42 @@ fn unfit_records(rt: HostRuntime) -> Result<(), Fail> {
             let mut buffer = vec![in rt.alloc(); 0xFFu8; 7 + more]?;
             let list = [REGISTER, record, REGISTER];
             assert_eq!(rt;
-                whole_log::record(RF5C68A, &list, buffer.as_mut_slice()),
+                whole_log::record(RF5C68A, list.as_slice(), buffer.as_mut_slice()),
                 RANGE
             );
-            check_front(&rt, buffer.as_slice(), &REGISTER_BYTES, 0xFF);
+            check_front(&rt, buffer.as_slice(), &[], 0xFF);
         }
     }
     Ok(())
+}
+
+const NO_ROOM: Result<usize, Refusal> = Err(Refusal::NoRoom);
+
+// The first of several causes in a list: a buffer's length, and the answer.
+#[test]
+fn first_cause(rt: HostRuntime) {
+    let unfit = Record::Wait { ticks: 0 };
+    let block = Record::Block {
+        offset: 0,
+        bytes: &[0xAB; 16],
+    };
+    let cases = [
+        (4, [unfit, block, REGISTER], NO_ROOM),
+        (5, [unfit, block, REGISTER], RANGE),
+        (5, [block, unfit, REGISTER], NO_ROOM),
+        (7, [REGISTER, unfit, block], RANGE),
+        (7, [REGISTER, block, unfit], NO_ROOM),
+        (24, [block, unfit, REGISTER], NO_ROOM),
+        (25, [block, unfit, REGISTER], RANGE),
+        (26, [block, REGISTER, unfit], NO_ROOM),
+        (27, [block, REGISTER, unfit], RANGE),
+    ];
+    for (length, list, answer) in cases {
+        let mut buffer = [0xEE; 27];
+        let part = buffer.get_mut(..length).unwrap_or(&mut []);
+        assert_eq!(rt; whole_log::record(RF5C68A, list.as_slice(), part), answer);
+        check_front(&rt, &buffer, &[], 0xEE);
+    }
 }
 
 // An offset and a length, and the answer: the length of a log of this block alone, or the refusal.
@@ -286,7 +300,7 @@ fn long_blocks(rt: HostRuntime) -> Result<(), Fail> {
         let bytes = bytes.as_slice();
         let list = [Record::Block { offset, bytes }];
         assert_eq!(rt;
-            whole_log::record(RF5C68A, &list, buffer.as_mut_slice()),
+            whole_log::record(RF5C68A, list.as_slice(), buffer.as_mut_slice()),
             answer
         );
     }

@@ -122,7 +122,7 @@ fn check_division(rt: &impl Abort, heap: Global, log: &[u8], groups: &[u8]) -> R
 #[test]
 fn over_ram(rt: HostRuntime) -> Result<(), Fail> {
     let mut buffer = [0; 64];
-    let length = whole_log::record(HEADER, &RECORDS, &mut buffer)?;
+    let length = whole_log::record(HEADER, RECORDS.as_slice(), &mut buffer)?;
     let log = buffer.get(..length).unwrap_or(&[]);
     for groups in DIVISIONS {
         check_division(&rt, rt.alloc(), log, groups)?;
@@ -156,7 +156,7 @@ fn check_halves<A: Store + Drop, B: Store + Drop, C: Store + Drop>(
 #[test]
 fn over_ram_and_rom(rt: HostRuntime) -> Result<(), Fail> {
     let mut buffer = [0; 64];
-    let length = whole_log::record(HEADER, &RECORDS, &mut buffer)?;
+    let length = whole_log::record(HEADER, RECORDS.as_slice(), &mut buffer)?;
     let log = buffer.get(..length).unwrap_or(&[]);
     let mut whole = samples(rt.alloc(), 32_768)?;
     let mut first = samples(rt.alloc(), 16_384)?;

@@ -45,7 +45,7 @@ fn copies_alike(log: &[u8]) -> bool {
 // The tune's log, a part of the buffer.
 pub fn record_tune<'b>(rt: &HostRuntime, buffer: &'b mut [u8]) -> io::Result<&'b [u8]> {
     let records = records();
-    match whole_log::record(HEADER, &records, buffer) {
+    match whole_log::record(HEADER, records.as_slice(), buffer) {
         Ok(length) => {
             let log = buffer.get(..length).unwrap_or(&[]);
             println!(rt;
