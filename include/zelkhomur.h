@@ -126,7 +126,7 @@ typedef struct {
     zelkhomur_step_answer last;
 } zelkhomur_played;
 
-/* logs, and the pitch calculator */
+/* logs, and the pitch calculator; a refused recording or copy leaves the buffer as it was */
 zelkhomur_header zelkhomur_check_header(const uint8_t *log, size_t log_length);
 zelkhomur_fd_answer zelkhomur_fd(uint32_t frequency, uint32_t clock, uint32_t words);
 zelkhomur_recorded zelkhomur_record_log(uint8_t kind, uint32_t clock, const zelkhomur_record *records,

@@ -54,6 +54,9 @@ static void check_recordings(void) {
     expect(zelkhomur_record_log(0, 10000000, wrong, 1, bytes, 0, buffer, sizeof buffer).refusal == 11, "a wrong record");
     expect(zelkhomur_record_log(0, 10000001, wrong, 0, bytes, 0, buffer, sizeof buffer).refusal == 8, "a wrong clock");
     expect(zelkhomur_record_log(0, 10000000, records, 4, bytes, 2, buffer, 17).refusal == 13, "a short buffer");
+    expect(zelkhomur_record_log(1, 10000000, records, 4, bytes, 1, buffer, 17).refusal == 11, "a block not lent");
+    expect(zelkhomur_copy_log(LOG, 17, buffer, sizeof buffer).refusal == 9, "a cut log");
+    expect(memcmp(buffer, expected, sizeof expected) == 0, "the buffer after refusals");
 
     recorded = zelkhomur_copy_log(LOG, sizeof LOG, buffer, sizeof buffer);
     expect(recorded.refusal == 0 && recorded.length == sizeof LOG && memcmp(buffer, LOG, sizeof LOG) == 0, "a copy");

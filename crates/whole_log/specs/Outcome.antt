@@ -33,9 +33,9 @@ recorded [] fault s = closed fault s
 recorded (entry ∷ rest) fault s = onward (recorded rest fault) s.buffer (added s entry)
 
 -- what comes of it, once all were added or one was refused
-abbrev pub finished : Result (Unit {0}) Refusal → Option Fault → State → Outcome
-finished (Ok u) fault s = closed fault s
-finished (Err refusal) fault s = outcome (Err refusal) s.buffer
+abbrev pub finished : Result (Unit {0}) Refusal → State → Outcome
+finished (Ok u) s = closed None s
+finished (Err refusal) s = outcome (Err refusal) s.buffer
 
 -- the single calls of a recording: a header, and records after it
 abbrev pub one_by_one : List ℕ → Header → List Entry → Option Fault → Outcome

@@ -1,18 +1,16 @@
 // Whole logs: recording a list of records, and copying a log. A refusal leaves the buffer as it was.
 #![tactic(auto)]
 
-ghost use Rattle.std.specs.Prelude.{◌≡◌, ℕ, List, length, None, Ok, Option as Maybe};
+ghost use Rattle.std.specs.Prelude.{◌≡◌, ℕ, List, length, None, Ok};
 ghost use Rattle.register_log.specs.Contents.{contents};
 ghost use Rattle.register_log.specs.Header.{header as header_of};
 ghost use Rattle.register_log.specs.Recording.{state};
-ghost use Rattle.register_log.specs.declared.fault.Fault.{Fault as FaultValue};
 ghost use Rattle.whole_log.specs.Outcome.{outcome, recorded, finished, one_by_one, recording, copied};
 ghost use Rattle.whole_log.specs.Law.{Recorded, Copied};
 
 pub mod records;
 
 use crate::records::Records;
-use register_log::fault::Fault;
 use register_log::header::Header;
 use register_log::layout::Layout;
 use register_log::reader::Reader;
@@ -61,9 +59,8 @@ fn add_all<R: Records>(
     records: R,
     buffer: &mut [u8],
 ) -> Result<(), Refusal>
-    ensures { (fault : Maybe FaultValue) →
-        recorded (R.entries records) fault (state «recording».old.layout.place buffer.old)
-        ≡ finished result fault (state «recording».new.layout.place buffer.new) }
+    ensures { recorded (R.entries records) None (state «recording».old.layout.place buffer.old)
+        ≡ finished result (state «recording».new.layout.place buffer.new) }
 {
     // a loop: of what a closure borrows and changes a proof would know nothing
     for index in 0..records.count() {
