@@ -11,6 +11,7 @@ use kind::Kind;
 use register_log::header::Header;
 use register_log::record::Record;
 use register_log::refusal::Refusal;
+use register_log::tag::Tag;
 use whole_log::records::Records;
 
 // A header's fields, or why it is refused.
@@ -33,15 +34,6 @@ pub struct Recorded {
     pub refusal: u8,
     pub length: usize,
 }
-
-// The tags of records, by which their numbers are told apart.
-const REGISTER: u8 = 1;
-
-const WINDOW: u8 = 2;
-
-const WAIT: u8 = 3;
-
-const BLOCK: u8 = 4;
 
 // A record by numbers.
 #[repr(C)]
@@ -70,21 +62,21 @@ impl FlatRecord {
             start,
             count,
         } = self;
-        match tag {
-            REGISTER => Record::Register {
+        match Tag::try_from(u32::from(tag)) {
+            Ok(Tag::Register) => Record::Register {
                 address: value.min(255) as u8,
                 byte,
             },
-            WINDOW => Record::Window {
+            Ok(Tag::Window) => Record::Window {
                 offset: value,
                 byte,
             },
-            WAIT => Record::Wait { ticks: value },
-            BLOCK => Record::Block {
+            Ok(Tag::Wait) => Record::Wait { ticks: value },
+            Ok(Tag::Block) => Record::Block {
                 offset: value,
                 bytes: part(bytes, start, count),
             },
-            _ => Record::Wait { ticks: 0 },
+            Ok(Tag::End) | Err(_) => Record::Wait { ticks: 0 },
         }
     }
 }

@@ -10,4 +10,4 @@ pub mod reader;
 pub mod record;
 pub mod recording;
 pub mod refusal;
-mod tag;
+pub mod tag;

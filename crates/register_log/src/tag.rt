@@ -4,7 +4,7 @@ ghost use Rattle.register_log.specs.Tag.{Tells};
 use crate::fault::Fault;
 
 #[derive(Clone, Copy, PartialEq, Eq, Debug)]
-pub(crate) enum Tag {
+pub enum Tag {
     End = 0,
     Register = 1,
     Window = 2,
