@@ -38,6 +38,13 @@ zelkhomur_recorded __wrap_zelkhomur_record_log(uint8_t kind, uint32_t clock, con
     /* the byte behind the log, and what a refused recording leaves */
     if (wrong("recording behind") && answer.length && answer.length < buffer_length) buffer[answer.length] ^= 1;
     if (wrong("recording refused") && answer.refusal == 11 && buffer_length > 4) buffer[4] ^= 1;
+    if (wrong("recording's header") && answer.refusal == 13 && buffer_length && buffer_length < 5) buffer[0] = 0x10;
+    /* the log of the records before the refused one */
+    if (wrong("recording's first records") && answer.refusal) {
+        while (records_count-- && __real_zelkhomur_record_log(kind, clock, records, records_count, bytes, bytes_length,
+                                                              buffer, buffer_length).refusal) continue;
+    }
+    if (wrong("longest recording") && answer.refusal == 13 && buffer_length > 16777216) buffer[16777215] ^= 1;
     return answer;
 }
 
@@ -48,6 +55,11 @@ zelkhomur_recorded __wrap_zelkhomur_copy_log(const uint8_t *log, size_t log_leng
                                              size_t buffer_length) {
     zelkhomur_recorded answer = __real_zelkhomur_copy_log(log, log_length, buffer, buffer_length);
     if (wrong("copy") && answer.refusal == 12) answer.refusal = 9;
+    /* what a refused copy leaves: as much as there is room for, the log's header, and the last byte of the buffer */
+    if (wrong("copy without room") && answer.refusal == 13) memcpy(buffer, log, buffer_length);
+    if (wrong("copy's header") && answer.refusal == 9 && buffer_length > 4) memcpy(buffer, log, 4);
+    if (wrong("copy a byte short") && answer.refusal == 13 && buffer_length + 1 == log_length)
+        buffer[buffer_length - 1] = log[buffer_length - 1];
     return answer;
 }
 
