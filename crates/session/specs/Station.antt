@@ -41,7 +41,7 @@ model bytes takes s =
 
 -- a loan of which all is used
 abbrev pub all_of : ℕ → Loan
-all_of name = record { name = name; beyond = [] }
+all_of name = record { name = Some name; beyond = [] }
 
 -- the loans that a station holds: its buffer's, and those of its memory
 abbrev pub held : {M : Type 0} → (M → List Loan) → Station M → List Loan

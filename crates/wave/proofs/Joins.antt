@@ -1,14 +1,14 @@
 -- What reads and writes of a board answer, by those of its parts.
-use Rattle.std.proofs.Common.{◌≡◌, ℕ, zero, suc, ◌+◌, ◌-◌, ◌<◌, ◌≤◌, min, Bool, true, false, cond, ◌&&◌, ltb, leb, List, [], ◌∷◌, ◌++◌, length, take, set, Ok, Err, Result, sym, refl, ap, ◌∙◌, ap₂, ⊎_elim, append-nil, arith}
-use Rattle.std.proofs.lemmas.List.{length-append, length-take, take_all, length-set, get_or_append_left, get_or-append_right, set-append_left, set-append_right}
+use Rattle.std.proofs.Common.{◌≡◌, ℕ, zero, suc, ◌+◌, ◌-◌, ◌<◌, ◌≤◌, min, Bool, true, false, cond, ◌&&◌, ltb, leb, List, [], ◌∷◌, ◌++◌, length, take, drop, set, Ok, Err, Result, sym, refl, ap, ◌∙◌, ap₂, ⊎_elim, append-nil, arith}
+use Rattle.std.proofs.lemmas.List.{length-append, length-take, take_all, length-set, drop-set-lt, get_or_append_left, get_or-append_right, set-append_left, set-append_right}
 use Rattle.std.proofs.lemmas.Bool.{lt-ltb, le-ltb, le-leb, lt-leb, and_from, and_left, and_right, cond-true, cond-false, cases_lt}
 use Rattle.outcome.specs.Outcome.{granted, kept}
 use Rattle.wave.specs.Memory.{Memory, Alike, most, size, meaning, fetch, store, written}
 use Rattle.wave.specs.Lent.{used, ram, rom}
-use Rattle.wave.specs.Board.{joined, either, board, second_written}
+use Rattle.wave.specs.Board.{joined, cut_off, either, board, second_written}
 use Rattle.wave.specs.declared.memory.Refusal.{Refusal}
 use Rattle.wave.specs.declared.memory.Refusal.TheVariants.{ReadOnly, PastEnd}
-use Rattle.wave.proofs.Writes.{fetch_inside, fetch_past, store_inside, store_at, store_past}
+use Rattle.wave.proofs.Writes.{fetch_inside, fetch_past, store_inside, store_at, store_past, written_same}
 use Rattle.std.specs.Result.{result_map_both}
 use Rattle.wave.proofs.Runs.{one_meaning}
 use Rattle.wave.proofs.Limits.{used_length, used_at, used-set}
@@ -187,3 +187,19 @@ module _ (m n : Memory) (place byte : ℕ) where
 
     pub second_far : second_written m n place byte ≡ n
     second_far = cond-false _ _ _ (and_right (leb (size m) place) (ltb place most) (le-ltb place most far))
+
+-- What a write leaves beyond the board
+
+pub cut_as_before : (a b c : List ℕ) → length b ≡ length a → cut_off b c ≡ cut_off a c
+unfolding cut_off
+cut_as_before a b c e = ap (λ n. drop (most - n) c) e
+
+pub cut_first : (m : Memory) (second : List ℕ) (place byte : ℕ) → cut_off (written m place byte).bytes second ≡ cut_off m.bytes second
+cut_first m second place byte = written_same (λ bytes. cut_off bytes second) m place byte (cut_as_before m.bytes _ second (length-set m.bytes place byte))
+
+pub cut_second :
+    (first : List ℕ) (n : Memory) (place byte : ℕ) → place < most - length first →
+    cut_off first (written n place byte).bytes ≡ cut_off first n.bytes
+unfolding cut_off
+cut_second first n place byte h =
+    written_same (λ bytes. cut_off first bytes) n place byte (drop-set-lt (most - length first) n.bytes place byte h)

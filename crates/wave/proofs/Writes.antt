@@ -1,7 +1,7 @@
 -- What reads and writes of a memory answer, below its size and past it.
-use Rattle.std.proofs.Common.{◌≡◌, ℕ, ◌<◌, ◌≤◌, Bool, cond, ◌&&◌, ltb, List, length, get_or, set, Ok, Err, sym, ap}
+use Rattle.std.proofs.Common.{◌≡◌, ℕ, ◌<◌, ◌≤◌, Bool, true, false, cond, ◌&&◌, ltb, List, length, get_or, set, Ok, Err, sym, refl, ap, ◌∙◌, ⊎_elim}
 use Rattle.std.proofs.lemmas.List.{length-set}
-use Rattle.std.proofs.lemmas.Bool.{lt-ltb, le-ltb, cond-true, cond-false}
+use Rattle.std.proofs.lemmas.Bool.{lt-ltb, le-ltb, cond-true, cond-false, cases_lt}
 use Rattle.outcome.specs.Outcome.{kept}
 use Rattle.wave.specs.Memory.{Memory, size, meaning, fetch, store, written}
 use Rattle.wave.specs.declared.memory.Refusal.TheVariants.{ReadOnly, PastEnd}
@@ -31,3 +31,17 @@ store_past m place byte h = cond-false (ltb place (size m)) _ _ (le-ltb place (s
 
 pub written_past : (m : Memory) (place byte : ℕ) → size m ≤ place → written m place byte ≡ m
 written_past m place byte h = ap (kept m) (store_past m place byte h)
+
+-- what is the same with a byte replaced is the same after a write was tried
+pub written_same :
+    {A : Type 0} (f : List ℕ → A) (m : Memory) (place byte : ℕ) → f (set m.bytes place byte) ≡ f m.bytes →
+    f (written m place byte).bytes ≡ f m.bytes
+written_same f m place byte h =
+    ⊎_elim
+    (λ i. ap (λ r. f (kept m r).bytes) (store_at m place byte i) ∙ allowed (m.takes place))
+    (λ p. ap (λ x. f x.bytes) (written_past m place byte p))
+    (cases_lt place (size m))
+  where
+    allowed : (t : Bool) → f (kept m (cond t (Ok (record { bytes = set m.bytes place byte; takes = m.takes })) (Err ReadOnly))).bytes ≡ f m.bytes
+    allowed true = h
+    allowed false = refl

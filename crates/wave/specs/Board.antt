@@ -1,6 +1,6 @@
 -- Two memories in a row, the first one's places first.
-use Rattle.std.specs.Prelude.{ℕ, ◌-◌, ◌≤◌, Bool, cond, ◌&&◌, List, ◌++◌, length, nat_le, nat_lt}
-use Rattle.wave.specs.Memory.{Memory, most, size, written, meaning}
+use Rattle.std.specs.Prelude.{ℕ, ◌-◌, ◌≤◌, Bool, cond, ◌&&◌, List, ◌++◌, length, drop, [], ◌∷◌, None, nat_le, nat_lt}
+use Rattle.wave.specs.Memory.{Memory, Loan, most, size, written, meaning}
 use Rattle.wave.specs.Lent.{used, used_within}
 
 -- their bytes, as far as a memory goes
@@ -10,6 +10,14 @@ joined first second = used (first ++ second)
 pub joined_within : (first second : List ℕ) → length (joined first second) ≤ most
 unfolding joined
 joined_within first second = used_within (first ++ second)
+
+-- those of the second beyond the board, which it never reaches
+unfoldable pub cut_off : List ℕ → List ℕ → List ℕ
+cut_off first second = drop (most - length first) second
+
+-- what a board holds of its lenders: what its parts hold, and what it cuts off
+abbrev pub loans : List ℕ → List Loan → List ℕ → List Loan → List Loan
+loans first of_first second of_second = of_first ++ of_second ++ record { name = None; beyond = cut_off first second } ∷ []
 
 -- the places of either that take writes
 abbrev pub either : Memory → Memory → ℕ → Bool

@@ -1,5 +1,5 @@
 -- Bytes that a memory is made over.
-use Rattle.std.specs.Prelude.{ℕ, ◌≤◌, true, false, List, length, take, drop}
+use Rattle.std.specs.Prelude.{ℕ, ◌≤◌, true, false, List, length, take, drop, Some}
 use Rattle.std.specs.Borrow.{MutBor}
 use Rattle.std.proofs.Common.{arith}
 use Rattle.std.proofs.lemmas.List.{length-take}
@@ -19,7 +19,7 @@ beyond lent = drop most lent
 
 -- what RAM holds of its lender
 abbrev pub loan : MutBor (List ℕ) → Loan
-loan lent = record { name = lent.ghost_name; beyond = beyond lent.now }
+loan lent = record { name = Some lent.ghost_name; beyond = beyond lent.now }
 
 -- RAM takes writes everywhere
 abbrev pub ram : List ℕ → Memory

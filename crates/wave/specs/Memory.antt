@@ -1,5 +1,5 @@
 -- What a wave memory means: its bytes, as many as its size, and the places that take writes.
-use Rattle.std.specs.Prelude.{◌≡◌, ℕ, ◌<◌, Bool, cond, ◌&&◌, List, length, Ok, Err, Result, nat_lt, slice_index, slice_set}
+use Rattle.std.specs.Prelude.{◌≡◌, ℕ, ◌<◌, Bool, cond, ◌&&◌, List, length, Ok, Err, Option, Result, nat_lt, slice_index, slice_set}
 use Rattle.outcome.specs.Outcome.{kept}
 use Rattle.wave.specs.declared.memory.Refusal.{Refusal}
 use Rattle.wave.specs.declared.memory.Refusal.TheVariants.{ReadOnly, PastEnd}
@@ -30,9 +30,9 @@ pub record Alike (m n : Memory) : Type 0 where
   pub bytes : m.bytes ≡ n.bytes
   pub takes : (place : ℕ) → place < size m → m.takes place ≡ n.takes place
 
--- bytes that a memory is lent: the name of the borrow, and those beyond its places, which it never reaches
+-- what a memory holds of its lenders: the name of a borrow, if it is one, and bytes beyond its places, which it never reaches
 pub record Loan : Type 0 where
-  pub name : ℕ
+  pub name : Option ℕ
   pub beyond : List ℕ
 
 -- a read: the byte, or past the end

@@ -1,9 +1,9 @@
 // A board: two memories in a row, the first one's places first.
-ghost use Rattle.std.specs.Prelude.{◌≡◌, ◌++◌};
+ghost use Rattle.std.specs.Prelude.{◌≡◌};
 ghost use Rattle.outcome.specs.Outcome.{granted};
 ghost use Rattle.wave.specs.Memory.{store, written};
 ghost use Rattle.wave.specs.Means.{means};
-ghost use Rattle.wave.specs.Board.{joined, either, board, second_written, joined_within};
+ghost use Rattle.wave.specs.Board.{joined, cut_off, loans, either, board, second_written, joined_within};
 
 use crate::memory::{MOST, Refusal, Source, Store};
 
@@ -40,7 +40,7 @@ impl<A: Source, B: Source> Source for Board<A, B> {
 impl<A: Store, B: Store> Store for Board<A, B> {
     ghost takes = { λ s. either (means A.bytes A.takes s.first) (means B.bytes B.takes s.second) };
 
-    ghost borrows = { λ s. A.borrows s.first ++ B.borrows s.second };
+    ghost borrows = { λ s. loans (A.bytes s.first) (A.borrows s.first) (B.bytes s.second) (B.borrows s.second) };
 
     fn write(&mut self, place: usize, byte: u8) -> Result<(), Refusal>
         ensures answer { result ≡ granted (store (board (means A.bytes A.takes self.old.first) (means B.bytes B.takes self.old.second)) place byte) }
@@ -55,6 +55,8 @@ impl<A: Store, B: Store> Store for Board<A, B> {
             (means A.bytes A.takes self.old.first)
             (means B.bytes B.takes self.old.second)
             place byte }
+        ensures cut_off { cut_off (A.bytes self.new.first) (B.bytes self.new.second)
+            ≡ cut_off (A.bytes self.old.first) (B.bytes self.old.second) }
         ensures first_borrows { A.borrows self.new.first ≡ A.borrows self.old.first }
         ensures second_borrows { B.borrows self.new.second ≡ B.borrows self.old.second }
     {

@@ -2,8 +2,8 @@ use Rattle.std.proofs.Common.{◌-◌, ◌<◌, ◌≤◌, refl, sym, ap, ◌∙
 use Rattle.outcome.specs.Outcome.{granted}
 use Rattle.wave.specs.Memory.{Memory, most, size, store, written}
 use Rattle.wave.specs.Means.{means}
-use Rattle.wave.specs.Board.{board}
-use Rattle.wave.proofs.Joins.{granted_first, written_first, second_left, granted_second, written_second, second_reached, board_past, second_far}
+use Rattle.wave.specs.Board.{board, cut_off}
+use Rattle.wave.proofs.Joins.{granted_first, written_first, second_left, granted_second, written_second, second_reached, board_past, second_far, cut_first, cut_second}
 use Rattle.wave.proofs.Writes.{store_past, written_past}
 use Rattle.wave.proofs.board.BoardStore.write.Goals as goal
 
@@ -18,6 +18,7 @@ returns-then-place-size g c =
       after = ap (λ x. board x n) c.write.ensures.after ∙ sym (written_first m n c.args.place c.args.byte short here);
       first = c.write.ensures.after;
       second = sym (second_left m n c.args.place c.args.byte short here);
+      cut_off = ap (λ x. cut_off x.bytes n.bytes) c.write.ensures.after ∙ cut_first m n.bytes c.args.place c.args.byte;
       first_borrows = c.write.ensures.same_borrows;
       second_borrows = refl;
     }
@@ -38,6 +39,7 @@ returns-then-place-lt-MOST g c =
       after = ap (board m) after ∙ sym (written_second m n c.args.place c.args.byte there near);
       first = sym (written_past m c.args.place c.args.byte there);
       second = after ∙ sym (second_reached m n c.args.place c.args.byte there near);
+      cut_off = ap (λ x. cut_off m.bytes x.bytes) after ∙ cut_second m.bytes n (c.args.place - size m) c.args.byte (omega arith);
       first_borrows = refl;
       second_borrows = c.write-then-place-lt-MOST.ensures.same_borrows;
     }
@@ -53,6 +55,7 @@ returns-else-place-lt-MOST g c =
       after = sym (written_past (board m n) c.args.place c.args.byte (board_past m n c.args.place c.args.byte far));
       first = sym (written_past m c.args.place c.args.byte there);
       second = sym (second_far m n c.args.place c.args.byte far);
+      cut_off = refl;
       first_borrows = refl;
       second_borrows = refl;
     }
