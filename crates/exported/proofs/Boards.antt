@@ -39,8 +39,8 @@ same_start log other c d p q totals words e f g =
 
 -- Lent RAM, of which a memory uses the front
 
-pub same_beyond : (x y : Loan) → x ∷ [] ≡ y ∷ [] → x.beyond ≡ y.beyond
-same_beyond x y e = cc
+pub same_beyond : (x y : Loan) (r s : List Loan) → x ∷ r ≡ y ∷ s → x.beyond ≡ y.beyond
+same_beyond x y r s e = cc
 
 -- after a call that left what is beyond
 pub lent_again :

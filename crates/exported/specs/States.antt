@@ -1,12 +1,9 @@
 -- The states that a caller's numbers stand for, and the numbers that a state is saved as.
-use Rattle.std.specs.Prelude.{ℕ, ℤ, false, cond, List, [], ◌∷◌, find, map, Some, None, Option, is_some, unwrap_or, ◌==◌}
+use Rattle.std.specs.Prelude.{ℕ, false, cond, List, [], ◌∷◌, find, map, Some, None, Option, is_some, unwrap_or, ◌==◌}
 use Rattle.wave.specs.declared.memory.Refusal.TheVariants.{ReadOnly, PastEnd}
-use Rattle.voice.specs.Stereo.{of_side}
-use Rattle.voice.specs.Voice.{Contribution}
 use Rattle.voice.specs.declared.voice.Voice.{Voice}
 use Rattle.voice.specs.declared.frame.Converter.{Converter}
 use Rattle.voice.specs.declared.frame.Converter.TheVariants.{Bits16, Bits10, Bits8}
-use Rattle.voice.specs.declared.stereo.SideName.{SideName}
 use Rattle.chip.specs.Refusal.{number as chip-number}
 use Rattle.chip.specs.declared.refusal.Refusal.{Refusal}
 use Rattle.chip.specs.declared.refusal.Refusal.TheVariants.{MemorySize, BeyondPort, NothingThere, Sounding, PastWindow, Memory}
@@ -91,10 +88,6 @@ saved_chip r =
       selected = r.control.selected;
       channel = r.channel;
     }
-
--- contributions to one side
-abbrev pub side_contributions : SideName → List Contribution → List ℤ
-side_contributions name list = map (λ c. of_side name c) list
 
 -- Players
 

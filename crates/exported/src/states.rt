@@ -2,7 +2,8 @@
 ghost use Rattle.std.specs.Prelude.{◌≡◌, is_some, map};
 ghost use Rattle.player.specs.Step.{new, standing};
 ghost use Rattle.chip.specs.Registers.{made, reset, latest};
-ghost use Rattle.exported.specs.States.{converter_of, voice_of, saved_voice, setup_of, registers_of, saved_chip, chip_refusal_of, log_fault_of, address_of, fault_of, state_of, stand_of, saved_player, saved_stand, side_contributions};
+ghost use Rattle.exported.specs.States.{converter_of, voice_of, saved_voice, setup_of, registers_of, saved_chip, chip_refusal_of, log_fault_of, address_of, fault_of, state_of, stand_of, saved_player, saved_stand};
+ghost use Rattle.voice.specs.Frame.{side_contributions};
 ghost use Rattle.voice.specs.declared.stereo.SideName.TheVariants.{Left, Right};
 
 use crate::logs::{kind_number, kind_of};
@@ -14,7 +15,7 @@ use chip::registers::{Registers, Setup};
 use player::fault::Fault;
 use player::player::State;
 use register_log::fault::Fault as LogFault;
-use voice::frame::Converter;
+use voice::frame::{Converter, side_contributions};
 use voice::stereo::SideName;
 use voice::voice::{Contribution, Settings, Voice};
 use wave::memory::Refusal as MemoryRefusal;
@@ -137,8 +138,8 @@ impl ChipState {
     {
         let latest = Chip::resume((), self.registers()).contributions();
         Contributions {
-            left: of_side(&latest, SideName::Left),
-            right: of_side(&latest, SideName::Right),
+            left: side_contributions(&latest, SideName::Left),
+            right: side_contributions(&latest, SideName::Right),
         }
     }
 
@@ -195,12 +196,6 @@ fn load_voices(states: &[VoiceState; 8]) -> [Voice; 8]
     ensures { result ≡ map voice_of states.now }
 {
     states.map(|state| state.voice())
-}
-
-fn of_side(latest: &[Contribution; 8], name: SideName) -> [i16; 8]
-    ensures { result ≡ side_contributions name latest.now }
-{
-    latest.map(|contribution| contribution.of_side(name))
 }
 
 const CONVERTERS: [Converter; 3] = [Converter::Bits16, Converter::Bits10, Converter::Bits8];

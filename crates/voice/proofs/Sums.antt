@@ -6,7 +6,7 @@ use Rattle.std.proofs.lemmas.Int.{ints}
 use Rattle.std.proofs.lemmas.List.{length-map}
 use Rattle.voice.specs.Voice.{Contribution, loudest, Within, Bounded}
 use Rattle.voice.specs.Stereo.{of_side}
-use Rattle.voice.specs.Frame.{shares, sum, side, frame_of, TotalWithin, AllWithin, AllBounded, RangedSide, Ranged}
+use Rattle.voice.specs.Frame.{side_contributions, sum, side, frame_of, TotalWithin, AllWithin, AllBounded, RangedSide, Ranged}
 use Rattle.voice.specs.declared.frame.Converter.{Converter}
 use Rattle.voice.specs.declared.stereo.SideName.{SideName}
 use Rattle.voice.specs.declared.stereo.SideName.TheVariants.{Left, Right}
@@ -26,9 +26,9 @@ side_within : (name : SideName) (x : Contribution) → Bounded x → Within (of_
 side_within Left x h = h.0
 side_within Right x h = h.1
 
-shares_within : (name : SideName) (heard : List Contribution) → AllBounded heard → AllWithin (shares name heard)
-shares_within name heard h =
-    All-map Within (λ c. of_side name c) heard (All-weaker Bounded (λ c. Within (of_side name c)) (λ c. side_within name c) heard h)
+contributions_within : (name : SideName) (list : List Contribution) → AllBounded list → AllWithin (side_contributions name list)
+contributions_within name list h =
+    All-map Within (λ c. of_side name c) list (All-weaker Bounded (λ c. Within (of_side name c)) (λ c. side_within name c) list h)
 
 sum_range :
     (xs : List ℤ) → AllWithin xs →
@@ -45,12 +45,12 @@ sum_within xs l h =
     (omega (arith, ints), omega (arith, ints))
 
 side_ranged :
-    (k : Converter) (name : SideName) (heard : List Contribution) → length heard ≡ 8 → AllBounded heard →
-    RangedSide (side k (shares name heard))
-side_ranged k name heard l h =
-    let within = shares_within name heard h in
-    (within, sum_within (shares name heard) (omega (arith, length-map heard (λ (c : Contribution). of_side name c))) within)
+    (k : Converter) (name : SideName) (list : List Contribution) → length list ≡ 8 → AllBounded list →
+    RangedSide (side k (side_contributions name list))
+side_ranged k name list l h =
+    let within = contributions_within name list h in
+    (within, sum_within (side_contributions name list) (omega (arith, length-map list (λ (c : Contribution). of_side name c))) within)
 
 -- a frame of contributions in range
-pub frame_ranged : (k : Converter) (heard : List Contribution) → length heard ≡ 8 → AllBounded heard → Ranged (frame_of k heard)
-frame_ranged k heard l h = (side_ranged k Left heard l h, side_ranged k Right heard l h)
+pub frame_ranged : (k : Converter) (list : List Contribution) → length list ≡ 8 → AllBounded list → Ranged (frame_of k list)
+frame_ranged k list l h = (side_ranged k Left list l h, side_ranged k Right list l h)

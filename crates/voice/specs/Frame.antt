@@ -11,13 +11,13 @@ use Rattle.voice.specs.declared.stereo.SideName.{SideName}
 use Rattle.voice.specs.declared.stereo.SideName.TheVariants.{Left, Right}
 use Rattle.voice.specs.declared.stereo.Stereo.{Stereo}
 
--- what eight voices contribute to one side
-abbrev pub shares : SideName → List Contribution → List ℤ
-shares name heard = map (λ c. of_side name c) heard
+-- contributions to one side
+abbrev pub side_contributions : SideName → List Contribution → List ℤ
+side_contributions name list = map (λ c. of_side name c) list
 
 -- the latest contributions of voices to one side
 abbrev pub contributions : SideName → List Voice → List ℤ
-contributions name voices = shares name (latest voices)
+contributions name voices = side_contributions name (latest voices)
 
 -- the exact sum
 abbrev pub sum : List ℤ → ℤ
@@ -60,7 +60,7 @@ Frame = Stereo Side
 
 -- the frame of what eight voices contribute
 abbrev pub frame_of : Converter → List Contribution → Frame
-frame_of k heard = record { left = side k (shares Left heard); right = side k (shares Right heard) }
+frame_of k list = record { left = side k (side_contributions Left list); right = side k (side_contributions Right list) }
 
 abbrev pub frame : Converter → List Voice → Frame
 frame k voices = frame_of k (latest voices)
@@ -82,7 +82,7 @@ abbrev pub AllWithin : List ℤ → Type 0
 AllWithin xs = AllByRecursion Within xs
 
 abbrev pub AllBounded : List Contribution → Type 0
-AllBounded heard = AllByRecursion Bounded heard
+AllBounded list = AllByRecursion Bounded list
 
 -- a side whose contributions and total are in range
 abbrev pub RangedSide : Side → Type 0

@@ -1,6 +1,6 @@
 // The frame of a tick: what eight voices contribute to each side, their total, and its word.
 ghost use Rattle.std.specs.Prelude.{◌≡◌};
-ghost use Rattle.voice.specs.Frame.{shares, sum, limited, height, word, side, frame_of, totals};
+ghost use Rattle.voice.specs.Frame.{side_contributions, sum, limited, height, word, side, frame_of, totals};
 ghost use Rattle.voice.specs.Frame.{AllBounded, Ranged};
 
 use crate::stereo::{SideName, Stereo};
@@ -34,13 +34,16 @@ pub type Frame = Stereo<Side>;
 
 impl Stereo<Side> {
     // The frame of what eight voices contribute: each side's total is the sum of its array.
-    pub fn new(heard: &[Contribution; 8], converter: Converter) -> Frame
-        ensures exact { result ≡ frame_of converter heard.now }
-        ensures ranged { AllBounded heard.now → Ranged result }
+    pub fn new(contributions: &[Contribution; 8], converter: Converter) -> Frame
+        ensures exact { result ≡ frame_of converter contributions.now }
+        ensures ranged { AllBounded contributions.now → Ranged result }
     {
         Frame {
-            left: new_side(contributions(heard, SideName::Left), converter),
-            right: new_side(contributions(heard, SideName::Right), converter),
+            left: new_side(side_contributions(contributions, SideName::Left), converter),
+            right: new_side(
+                side_contributions(contributions, SideName::Right),
+                converter,
+            ),
         }
     }
 
@@ -66,10 +69,11 @@ fn new_side(contributions: [i16; 8], converter: Converter) -> Side
     }
 }
 
-fn contributions(heard: &[Contribution; 8], name: SideName) -> [i16; 8]
-    ensures { result ≡ shares name heard.now }
+// What eight voices contribute to a side.
+pub fn side_contributions(contributions: &[Contribution; 8], name: SideName) -> [i16; 8]
+    ensures { result ≡ side_contributions name contributions.now }
 {
-    heard.map(|contribution| contribution.of_side(name))
+    contributions.map(|contribution| contribution.of_side(name))
 }
 
 // A loop and no `sum()`: that of signed numbers asks a bound which no chain shows, and the loop's invariant does.

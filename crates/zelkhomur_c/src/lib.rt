@@ -4,6 +4,7 @@
 ghost use Rattle.std.specs.Prelude.{◌≡◌, ◌++◌, length, map, None};
 ghost use Rattle.outcome.specs.Outcome.{granted, kept};
 ghost use Rattle.wave.specs.Lent.{beyond};
+ghost use Rattle.voice.specs.Frame.{side_contributions};
 ghost use Rattle.voice.specs.declared.stereo.SideName.TheVariants.{Left, Right};
 ghost use Rattle.chip.specs.Port.{write, read, inspect, tick};
 ghost use Rattle.chip.specs.Registers.{made, reset, latest};
@@ -13,7 +14,7 @@ ghost use Rattle.register_log.specs.Header.{header};
 ghost use Rattle.whole_log.specs.Outcome.{recording, copied};
 ghost use Rattle.exported.specs.Tones.{fd_answer};
 ghost use Rattle.exported.specs.Logs.{header_answer, header_of, entry_of, recorded_answer};
-ghost use Rattle.exported.specs.States.{setup_of, registers_of, saved_chip, stand_of, saved_stand, side_contributions};
+ghost use Rattle.exported.specs.States.{setup_of, registers_of, saved_chip, stand_of, saved_stand};
 ghost use Rattle.exported.specs.Ports.{bytes_of, chip_over, ram_of, refusal_number, read_answer, filled};
 ghost use Rattle.exported.specs.Plays.{step_answer, begun, playing};
 

@@ -32,7 +32,7 @@ returns-clause-ram c =
     let player = c.resume-reading.ensures.stand ∙ ap at c.state.ensures in
     let out = c.play_on-ticks.ensures.played ∙ same_start _ _ _ _ _ _ c.args.totals.now c.args.words.now c.resume-reading.ensures.log chip player in
     let lent = c.play_on-ticks.new.chip.memory.first.lent.now in
-    let same : beyond lent ≡ beyond c.args.ram.now = same_beyond (loan c.play_on-ticks.new.chip.memory.first.lent) (loan c.resume-sounding.result.memory.first.lent) c.play_on-ticks.ensures.same_borrows
+    let same : beyond lent ≡ beyond c.args.ram.now = same_beyond (loan c.play_on-ticks.new.chip.memory.first.lent) (loan c.resume-sounding.result.memory.first.lent) _ _ c.play_on-ticks.ensures.same_borrows
     ∙ ap beyond c.resume-sounding.ensures.ram.0 in
     rw (c.into_lent.ensures.0, c.into_memory.ensures)
     (lent_again c.args.ram.now lent _ _ same (ap (λ o. o.stage.chip.memory.bytes) out))

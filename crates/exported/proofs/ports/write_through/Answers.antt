@@ -17,7 +17,7 @@ pub returns-clause-ram : goal.returns-clause-ram
 returns-clause-ram c =
     let after = rw (c.resume-playing.ensures.registers, c.resume-playing.ensures.ram.0, c.resume-playing.ensures.rom) at c.write.ensures.after in
     let lent = c.write.new.self.memory.first.lent.now in
-    let same : beyond lent ≡ beyond c.args.ram.now = same_beyond (loan c.write.new.self.memory.first.lent) (loan c.resume-playing.result.memory.first.lent) c.write.ensures.same_borrows
+    let same : beyond lent ≡ beyond c.args.ram.now = same_beyond (loan c.write.new.self.memory.first.lent) (loan c.resume-playing.result.memory.first.lent) _ _ c.write.ensures.same_borrows
     ∙ ap beyond c.resume-playing.ensures.ram.0 in
     rw (c.into_lent.ensures.0, c.into_memory.ensures)
     (lent_again c.args.ram.now lent _ _ same (ap (λ s. s.memory.bytes) after))
