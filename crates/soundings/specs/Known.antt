@@ -1,8 +1,8 @@
 -- What the makers' rules give in examples.
-use Rattle.std.specs.Prelude.{◌≡◌, ◌≢◌, ℕ, ◌+◌, ◌-◌, ◌/◌, ◌%◌, true, List, [], ◌∷◌, ◌++◌, replicate, None, Some, Ok, ℤ, pos, neg_ℤ, slice_index}
+use Rattle.std.specs.Prelude.{◌≡◌, ◌≢◌, ℕ, zero, suc, ◌+◌, ◌-◌, ◌*◌, ◌/◌, ◌%◌, ◌<◌, true, List, [], ◌∷◌, ◌++◌, replicate, None, Some, Ok, ℤ, pos, neg_ℤ, slice_index}
 use Rattle.wave.specs.Search.{stop}
 use Rattle.voice.specs.Frame.{limited, word, sum, contributions}
-use Rattle.voice.specs.Voice.{Contribution, heard, silence, fresh, onward, position, positions, place, span, tick}
+use Rattle.voice.specs.Voice.{Contribution, heard, silence, fresh, step, loop_start, onward, position, positions, place, span, tick}
 use Rattle.voice.specs.declared.frame.Converter.TheVariants.{Bits16, Bits10, Bits8}
 use Rattle.voice.specs.declared.stereo.SideName.TheVariants.{Left}
 use Rattle.voice.specs.declared.voice.Settings.{Settings}
@@ -31,9 +31,28 @@ standing s p = record { settings = s; phase = Some p; latest = silence }
 abbrev pub stands_in : Voice → ℕ
 stands_in v = place (position v.settings v.phase)
 
--- the place so many further on; behind the last comes the first
+-- how many places a voice can stand in, and the one so many further on; behind the last comes the first
+abbrev pub places : ℕ
+places = positions / span
+
 abbrev pub further : ℕ → ℕ → ℕ
-further n at = (at + n) % (positions / span)
+further n at = (at + n) % places
+
+-- a voice stands in a place, and contributes what the byte there gives it
+abbrev pub ReadAt : List ℕ → Settings → ℕ → Voice → Type 0
+ReadAt bytes s at v = (stands_in v ≡ at) × (v.latest ≡ heard s (slice_index bytes at))
+
+-- where a voice stands and what it contributes after each of so many ticks
+abbrev pub heard_at : ℕ → List ℕ → Voice → List (ℕ × Contribution)
+heard_at zero bytes v = []
+heard_at (suc n) bytes v = let next : Voice = tick bytes true v in (stands_in next, next.latest) ∷ heard_at n bytes next
+
+-- seven bytes that differ and a stop byte, and a voice that goes over them by three places a tick, to loop from place 2
+abbrev pub seven : List ℕ
+seven = 129 ∷ 130 ∷ 131 ∷ 132 ∷ 133 ∷ 134 ∷ 135 ∷ 255 ∷ []
+
+abbrev pub skipping : Settings
+skipping = record { env = 255; pan = 255; fdl = 0; fdh = 24; lsl = 2; lsh = 0; st = 0 }
 
 abbrev pub both : ℤ → Contribution
 both z = record { left = z; right = z }
@@ -74,11 +93,20 @@ pub record Known : Type 0 where
   pub round : onward (moving 0 1) (Some 134217727) ≡ 0
   pub at_rest : position (starting 18) None ≡ 9437184
   pub at_rest_place : place (position (starting 18) None) ≡ 4608
-  -- a tick goes three places on from where the voice stands, and reads there, unless it meets a stop byte
+  -- a tick by three places goes that far on from where the voice stands, and reads there
   pub three_places :
-      (bytes : List ℕ) (p : ℕ) → let v : Voice = standing (moving 24 0) p in let read : ℕ = further 3 (stands_in v) in
+      (bytes : List ℕ) (s : Settings) (p : ℕ) → step s ≡ 3 * span → let read : ℕ = further 3 (stands_in (standing s p)) in
       slice_index bytes read ≢ stop →
-      (stands_in (tick bytes true v) ≡ read) × ((tick bytes true v).latest ≡ heard v.settings (slice_index bytes read))
+      ReadAt bytes s read (tick bytes true (standing s p))
+  -- or, where it meets a stop byte there, reads at the loop start
+  pub three_places_to_stop :
+      (bytes : List ℕ) (s : Settings) (p again : ℕ) → step s ≡ 3 * span → loop_start s ≡ again * span → again < places →
+      slice_index bytes (further 3 (stands_in (standing s p))) ≡ stop →
+      ReadAt bytes s again (tick bytes true (standing s p))
+  -- from place 65,534 round to 1, to 4, to the stop byte in 7 and the loop start, and to 5
+  pub skipped :
+      heard_at 4 seven (standing skipping (65534 * span))
+      ≡ (1, both (pos 239)) ∷ (4, both (pos 597)) ∷ (2, both (pos 358)) ∷ (5, both (pos 717)) ∷ []
   -- the words of no sound
   pub word_of_16 : word Bits16 (pos 0) ≡ 0
   pub word_of_10 : word Bits10 (pos 0) ≡ 512

@@ -1,13 +1,14 @@
-// Known soundings: examples that the rules decide, carried out by the code.
+// Worked examples: what the rules decide, carried out by the code.
 #![tactic(auto)]
 
-ghost use Rattle.std.specs.Prelude.{◌≡◌, ◌↔◌, true, Some, Ok, IsTrue};
-ghost use Rattle.voice.specs.Voice.{heard, onward};
+ghost use Rattle.std.specs.Prelude.{◌≡◌, ◌↔◌, ◌*◌, true, Some, Ok, IsTrue};
+ghost use Rattle.wave.specs.Lent.{used};
+ghost use Rattle.voice.specs.Voice.{heard, onward, span, tick};
 ghost use Rattle.register_log.specs.Header.{header};
 ghost use Rattle.register_log.specs.Reading.{end, found, decode, place_after};
 ghost use Rattle.register_log.specs.Record.{register};
 ghost use Rattle.pitch.specs.Pitch.{fd};
-ghost use Rattle.soundings.specs.Known.{Known, loud, moving, both, total, clocked};
+ghost use Rattle.soundings.specs.Known.{Known, loud, moving, standing, stands_in, heard_at, seven, skipping, both, total, clocked};
 
 use kind::Kind;
 use pitch::{Refusal, Tone};
@@ -91,6 +92,7 @@ fn positions() -> bool
         && moved(0, 1, 134_217_727) == 0
         && moved(0x18, 0, 0) == 3 * 2_048
         && moved(0x18, 0, 65_534 * 2_048) == 2_048
+        && skips()
 }
 
 // Where a voice stands after a tick, over a memory of no bytes.
@@ -103,6 +105,44 @@ fn moved(fdh: u8, fdl: u8, from: u32) -> u32
     voice.phase = Some(from);
     voice.tick(&Rom::new(&[]), true);
     voice.position()
+}
+
+// From place 65,534 round to 1, to 4, to the stop byte in 7 and the loop start, and to 5.
+fn skips() -> bool
+    ensures { result ≡ true }
+{
+    skipped()
+        == [
+            (1, both(239)),
+            (4, both(597)),
+            (2, both(358)),
+            (5, both(717)),
+        ]
+}
+
+fn skipped() -> [(u16, Contribution); 4]
+    ensures { result ≡ heard_at 4 seven (standing skipping (65534 * span)) }
+{
+    let seven = [0x81, 0x82, 0x83, 0x84, 0x85, 0x86, 0x87, 0xFF];
+    let mut voice = Voice::new();
+    voice.settings.env = 255;
+    voice.settings.pan = 0xFF;
+    voice.settings.fdh = 0x18;
+    voice.settings.lsl = 2;
+    voice.phase = Some(65_534 * 2_048);
+    let first = ticked(&mut voice, &seven);
+    let second = ticked(&mut voice, &seven);
+    let third = ticked(&mut voice, &seven);
+    [first, second, third, ticked(&mut voice, &seven)]
+}
+
+// Where a voice stands after a tick, and what it contributes.
+fn ticked(voice: &mut Voice, bytes: &[u8]) -> (u16, Contribution)
+    ensures voice { voice.new ≡ tick (used bytes.now) true voice.old }
+    ensures heard { result ≡ (stands_in voice.new, voice.new.latest) }
+{
+    voice.tick(&Rom::new(bytes), true);
+    (voice.place(), voice.latest)
 }
 
 fn words() -> bool

@@ -1,4 +1,4 @@
-// Pitches, and the known soundings.
+// Pitches, and the worked examples.
 use pitch::Tone;
 use std::io;
 
@@ -16,8 +16,8 @@ pub fn show_pitches(rt: &HostRuntime) -> io::Result<()> {
         }
     }
     if soundings::hold() {
-        println!(rt; "carried out the known soundings, and all came out")
+        println!(rt; "carried out the worked examples, and all came out")
     } else {
-        println!(rt; "carried out the known soundings, and not all came out")
+        println!(rt; "carried out the worked examples, and not all came out")
     }
 }
