@@ -1,16 +1,8 @@
 -- A piece of text in a buffer, with one line more.
-use Rattle.std.proofs.Common.{◌≡◌, ℕ, ◌+◌, ◌-◌, ◌≤◌, List, [], ◌∷◌, ◌++◌, length, take, drop, append_assoc, append-nil, sym, ap, ◌∙◌, subst, arith}
+use Rattle.std.proofs.Common.{◌≡◌, ℕ, ◌+◌, ◌-◌, ◌≤◌, List, ◌++◌, length, take, drop, append_assoc, sym, ap, ◌∙◌, subst, arith}
 use Rattle.std.proofs.lemmas.List.{drop-drop}
-use Rattle.voice.specs.Frame.{Frame}
 use Rattle.lines.specs.Line.{put, behind}
-use Rattle.render.specs.Text.{frame_line, tick_lines}
 use Rattle.lines.proofs.Fronts.{put_front, put_beyond, put_onward}
-
--- lines, with one more
-pub lines_grown : (frames : List Frame) (f : Frame) → tick_lines (frames ++ (f ∷ [])) ≡ tick_lines frames ++ frame_line f
-unfolding tick_lines
-lines_grown [] f = append-nil (frame_line f)
-lines_grown (g ∷ frames) f = ap (λ t. frame_line g ++ t) (lines_grown frames f) ∙ sym (append_assoc (frame_line g) (tick_lines frames) (frame_line f))
 
 module _ (old new : List ℕ) (place next : ℕ) (line : List ℕ) (room : 24 ≤ length old - place) (e : new ≡ put old place line) (f : next ≡ behind old place line) where
   pub front : take next new ≡ take place old ++ line

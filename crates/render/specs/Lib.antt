@@ -1,4 +1,5 @@
 pub mod Last
 pub mod Text
+pub mod Steps
 pub mod Playback
 pub mod Stem

@@ -1,5 +1,5 @@
 -- What is printed of a log that is played on a chip: a line for each tick, and the last line.
-use Rattle.std.specs.Prelude.{ℕ, zero, suc, List, [], ◌∷◌, ◌++◌, Option, Some, None, Ok, Err, Result, codes}
+use Rattle.std.specs.Prelude.{ℕ, zero, suc, List, [], ◌++◌, Option, Some, None, Ok, Err, Result, codes}
 use Rattle.voice.specs.Frame.{frame, Frame}
 use Rattle.chip.specs.Port.{State as ChipState}
 use Rattle.player.specs.Left.{left}
@@ -20,11 +20,6 @@ frame_line f = tick_line f.left.total f.right.total
 -- the line of a tick that a chip has just done
 abbrev pub ticked_line : ChipState → List ℕ
 ticked_line c = frame_line (frame c.registers.setup.converter c.registers.voices)
-
--- the lines of ticks, by their frames
-unfoldable pub tick_lines : List Frame → List ℕ
-tick_lines [] = []
-tick_lines (f ∷ rest) = frame_line f ++ tick_lines rest
 
 abbrev pub last_line : Last → List ℕ
 last_line l = last.text l ++ codes "\n"

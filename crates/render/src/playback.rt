@@ -1,12 +1,11 @@
 // A log that is played on a chip, as the text of its ticks: piece by piece, into a lent buffer.
-ghost use Rattle.std.specs.Prelude.{◌≡◌, ◌+◌, ◌<◌, ◌≤◌, List, ◌++◌, length, take, drop, Some, None, IfSome};
+ghost use Rattle.std.specs.Prelude.{◌≡◌, ◌+◌, ◌<◌, ◌≤◌, ◌++◌, length, take, drop, Some, None, IfSome};
 ghost use Rattle.lines.specs.Line.{longest};
-ghost use Rattle.voice.specs.Frame.{Frame as FrameValue};
 ghost use Rattle.player.specs.Step.{stand, new};
 ghost use Rattle.chip.specs.Chip.{state};
-ghost use Rattle.render.specs.Text.{text, tick_lines, closed};
+ghost use Rattle.render.specs.Text.{text, closed};
 ghost use Rattle.render.specs.Last.{ending};
-ghost use Rattle.render.specs.Playback.{rest};
+ghost use Rattle.render.specs.Playback.{rest, PlaysOn};
 
 use crate::last::Last;
 use chip::chip::Chip;
@@ -30,6 +29,9 @@ pub struct Piece {
 
 impl<'a, M: Store> Playback<'a, M> {
     pub fn new(chip: Chip<M>, log: &'a [u8]) -> Playback<'a, M>
+        ensures chip { result.chip ≡ chip }
+        ensures log { result.player.reader.log.now ≡ log.now }
+        ensures stand { stand result.player ≡ new }
         ensures text { rest M.bytes M.takes result ≡ text log.now (state M.bytes M.takes chip) new }
         ensures same_borrows { M.borrows result.chip.memory ≡ M.borrows chip.memory }
     {
@@ -40,12 +42,13 @@ impl<'a, M: Store> Playback<'a, M> {
     }
 
     // Plays on, and writes the lines of the ticks to the buffer's front, until the player stops or the buffer has no room
-    // for a longest line. Once the player has stopped nothing changes any more, and each piece is empty and has the last
-    // line again, whatever room the buffer has.
+    // for a longest line. Chip and player are then as the player's steps leave them. Once the player has stopped nothing
+    // changes any more, and each piece is empty and has the last line again, whatever room the buffer has.
     pub fn fill(&mut self, buffer: &mut [u8]) -> Piece
         ensures text { rest M.bytes M.takes self.old
             ≡ take result.length buffer.new ++ closed result.last (rest M.bytes M.takes self.new) }
-        ensures whole { (frames : List FrameValue) × (take result.length buffer.new ≡ tick_lines frames) }
+        ensures steps { PlaysOn M.bytes M.takes self.old self.new (take result.length buffer.new) }
+        ensures log { self.new.player.reader.log.now ≡ self.old.player.reader.log.now }
         ensures beyond { drop result.length buffer.new ≡ drop result.length buffer.old }
         ensures within { result.length ≤ length buffer.old }
         ensures full { result.last ≡ None → length buffer.old < result.length + longest }

@@ -1,24 +1,24 @@
-use Rattle.std.proofs.Common.{◌≡◌, ◌≤◌, ◌-◌, [], ◌∷◌, ◌++◌, false, None, length, take, refl, sym, ap, ◌∙◌, arith, Ok, to_z-of_z, rules, SFits, w32}
+use Rattle.std.proofs.Common.{◌≡◌, ◌≤◌, ◌-◌, ◌++◌, false, None, length, take, refl, sym, ap, ◌∙◌, arith, Ok, to_z-of_z, rules, SFits, w32}
 use Rattle.chip.specs.Chip.{state}
 use Rattle.player.specs.Step.{stand}
 use Rattle.player.specs.declared.player.Progress.TheVariants.{Ticked}
 use Rattle.render.specs.Last.{ending}
-use Rattle.render.specs.Text.{frame_line, tick_lines, closed}
+use Rattle.render.specs.Text.{frame_line, closed}
 use Rattle.render.specs.Playback.{rest}
 use Rattle.render.proofs.Endings.{ticks, nearer, in_vain}
 use Rattle.render.proofs.Texts.{text_closed, played_on, line_told, ending_told, quiet}
-use Rattle.render.proofs.Pieces.{front, lines_grown, piece_grown, beyond_kept}
+use Rattle.render.proofs.Pieces.{front, piece_grown, beyond_kept}
+use Rattle.render.proofs.Steps.{none_taken, stepped_on, no_line}
 use Rattle.render.proofs.playback.Playback.fill.Goals as goal
 
 pub loop-frame-init : goal.loop-frame-init
-unfolding tick_lines
 loop-frame-init g c = record {
   log = refl;
   within = search rules;
   same_length = refl;
   beyond = refl;
   same = refl;
-  whole = ([], refl);
+  steps = none_taken c.args.self.now.player.reader.log.now (state g.M.Source.bytes g.M.Store.takes c.args.self.now.chip) (stand c.args.self.now.player);
   borrows = refl;
   stopped = search rules;
 }
@@ -49,12 +49,13 @@ loop-frame-preserved-in-Ticked-1 g c =
           ∙ ap (λ t. t ++ rest g.M.Source.bytes g.M.Store.takes record { chip = c.step.new.chip; player = c.step.new.self }) (sym told))
           ∙ piece_grown c.loop-frame.buffer c.put_tick-length.new.buffer c.loop-frame.length c.put_tick-length.result (frame_line c.step.new.frame)
           room written next (rest g.M.Source.bytes g.M.Store.takes record { chip = c.step.new.chip; player = c.step.new.self });
-      whole = (
-        c.loop-frame.invariant.whole.0 ++ (c.step.new.frame ∷ []),
-        front c.loop-frame.buffer c.put_tick-length.new.buffer c.loop-frame.length c.put_tick-length.result (frame_line c.step.new.frame) room written next
-            ∙ ap (λ t. t ++ frame_line c.step.new.frame) c.loop-frame.invariant.whole.1
-            ∙ sym (lines_grown c.loop-frame.invariant.whole.0 c.step.new.frame),
-      );
+      steps =
+          stepped_on g.M.Source.bytes g.M.Store.takes c.loop-frame.self c.step.new.chip c.step.new.self (Ok Ticked) outcome c.args.self.now
+          (take c.loop-frame.length c.loop-frame.buffer) (take c.put_tick-length.result c.put_tick-length.new.buffer)
+          c.loop-frame.invariant.log going
+          (front c.loop-frame.buffer c.put_tick-length.new.buffer c.loop-frame.length c.put_tick-length.result (frame_line c.step.new.frame) room written next
+          ∙ ap (λ t. take c.loop-frame.length c.loop-frame.buffer ++ t) told)
+          c.loop-frame.invariant.steps;
       borrows = c.in-Ok-Ticked.ensures.same_borrows ∙ c.loop-frame.invariant.borrows;
       stopped =
           in_vain _ (ending c.args.self.now.player.state) c.loop-frame.invariant.stopped
@@ -75,7 +76,12 @@ loop-frame-preserved-in-Taken-1 g c =
           ∙ ap (λ t. take c.loop-frame.length c.loop-frame.buffer ++ t)
           (quiet g.M.Source.bytes g.M.Store.takes c.loop-frame.self c.step.new.chip c.step.new.self c.step.result c.step.ensures.log
           c.step.ensures.outcome silent);
-      whole = c.loop-frame.invariant.whole;
+      steps =
+          stepped_on g.M.Source.bytes g.M.Store.takes c.loop-frame.self c.step.new.chip c.step.new.self c.step.result c.step.ensures.outcome
+          c.args.self.now (take c.loop-frame.length c.loop-frame.buffer) (take c.loop-frame.length c.loop-frame.buffer)
+          c.loop-frame.invariant.log going
+          (no_line (take c.loop-frame.length c.loop-frame.buffer) (state g.M.Source.bytes g.M.Store.takes c.step.new.chip) c.step.result silent)
+          c.loop-frame.invariant.steps;
       borrows = c.step.ensures.same_borrows ∙ c.loop-frame.invariant.borrows;
       stopped =
           in_vain _ (ending c.args.self.now.player.state) c.loop-frame.invariant.stopped
@@ -104,7 +110,12 @@ loop-frame-preserved g c =
           ∙ ap (λ t. take c.loop-frame.length c.loop-frame.buffer ++ t)
           (quiet g.M.Source.bytes g.M.Store.takes c.loop-frame.self c.step.new.chip c.step.new.self c.step.result c.step.ensures.log
           c.step.ensures.outcome silent);
-      whole = c.loop-frame.invariant.whole;
+      steps =
+          stepped_on g.M.Source.bytes g.M.Store.takes c.loop-frame.self c.step.new.chip c.step.new.self c.step.result c.step.ensures.outcome
+          c.args.self.now (take c.loop-frame.length c.loop-frame.buffer) (take c.loop-frame.length c.loop-frame.buffer)
+          c.loop-frame.invariant.log going
+          (no_line (take c.loop-frame.length c.loop-frame.buffer) (state g.M.Source.bytes g.M.Store.takes c.step.new.chip) c.step.result silent)
+          c.loop-frame.invariant.steps;
       borrows = c.step.ensures.same_borrows ∙ c.loop-frame.invariant.borrows;
       stopped =
           in_vain _ (ending c.args.self.now.player.state) c.loop-frame.invariant.stopped

@@ -1,9 +1,7 @@
-use Rattle.std.proofs.Common.{◌≡◌, ◌≤◌, List, ◌++◌, length, take, drop, IfSome}
+use Rattle.std.proofs.Common.{◌≡◌, ◌≤◌, ◌++◌, length, take, drop, IfSome}
 use Rattle.player.specs.Step.{stand}
-use Rattle.voice.specs.Frame.{Frame}
 use Rattle.render.specs.Last.{ending}
-use Rattle.render.specs.Text.{tick_lines}
-use Rattle.render.specs.Playback.{rest}
+use Rattle.render.specs.Playback.{rest, PlaysOn}
 use Rattle.render.proofs.Endings.{pending}
 use Rattle.render.proofs.playback.Playback.fill.Given as goal
 
@@ -16,7 +14,7 @@ invariant-loop-frame g l = record {
   beyond : drop l.length l.buffer ≡ drop l.length l.initial.buffer;
   same : rest g.M.Source.bytes g.M.Store.takes l.initial.self
       ≡ take l.length l.buffer ++ rest g.M.Source.bytes g.M.Store.takes l.self;
-  whole : (frames : List Frame) × (take l.length l.buffer ≡ tick_lines frames);
+  steps : PlaysOn g.M.Source.bytes g.M.Store.takes l.initial.self l.self (take l.length l.buffer);
   borrows : g.M.Store.borrows l.self.chip.memory ≡ g.M.Store.borrows l.initial.self.chip.memory;
   stopped : IfSome (ending l.initial.self.player.state)
       (λ _. (l.length ≡ 0) × (l.self ≡ l.initial.self) × (l.buffer ≡ l.initial.buffer));
