@@ -84,12 +84,6 @@ pub measured_begun :
 unfolding go_on
 measured_begun capacity h entries fault place e = sym (ap (go_on (measured capacity entries fault)) e)
 
-pub refused_begun :
-    (capacity : ℕ) (h : Header) (entries : List Entry) (fault : Option Fault) (refusal : Refusal) → header_placed capacity h ≡ Err refusal →
-    go_on (measured capacity entries fault) (header_placed capacity h) ≡ Err refusal
-unfolding go_on
-refused_begun capacity h entries fault refusal e = ap (go_on (measured capacity entries fault)) e
-
 -- The end
 
 pub measured_end : (capacity place : ℕ) → measured capacity [] None place ≡ Ok (log_length place)

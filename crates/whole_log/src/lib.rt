@@ -40,7 +40,7 @@ fn measure<R: Records>(header: Header, records: R, capacity: usize) -> Result<us
     Ok(layout.length())
 }
 
-// Makes the single calls.
+// Makes the single calls. `measure` has granted them, so that none is refused here.
 fn write<R: Records>(header: Header, records: R, buffer: &mut [u8]) -> Result<usize, Refusal>
     ensures { outcome result buffer.new ≡ one_by_one buffer.old header (R.entries records) None }
 {
@@ -71,7 +71,7 @@ fn add_all<R: Records>(
     Ok(())
 }
 
-// Records a log again, and answers its length. An accepted log comes out byte by byte as it was.
+// Takes a log's bytes over, and answers as if the log were recorded again. An accepted log comes out byte by byte.
 pub fn copy(log: &[u8], buffer: &mut [u8]) -> Result<usize, Refusal>
     ensures outcome { outcome result buffer.new ≡ copied log.now buffer.old }
     ensures law { Copied log.now buffer.old (outcome result buffer.new) }
