@@ -64,9 +64,10 @@ static void tick(struct voice *voices, uint8_t channel, const uint8_t *bytes, st
     finish(&frame->right);
 }
 
-/* Each part of a frame counts, and contributions whose place no compiler knows, so that none is left out. */
-static int64_t weighed(const struct frame *frame, int voice) {
+/* Each part of a frame counts, and contributions at a place that the left word names, so that none is left out. */
+static int64_t weighed(const struct frame *frame) {
     const struct side *left = &frame->left, *right = &frame->right;
+    int voice = left->word % 8;
     int64_t totals = (int64_t)left->total - 3 * (int64_t)right->total;
     int64_t items = (int64_t)left->contributions[voice] - 5 * (int64_t)right->contributions[voice];
     int64_t words = (int64_t)left->word - 7 * (int64_t)right->word;
@@ -91,7 +92,7 @@ int main(int arguments, char **names) {
     int64_t sum = 0;
     for (int i = 0; i < TICKS; i++) {
         tick(voices, channel, bytes, &frame);
-        sum += weighed(&frame, i % 8);
+        sum += weighed(&frame);
     }
     printf("%" PRId64 "\n", sum);
     free(bytes);

@@ -1,6 +1,4 @@
 // Ticks over a RAM.
-ghost use Rattle.std.specs.Prelude.{◌<◌};
-
 use chip::chip::Chip;
 use chip::registers::Setup;
 use kind::Kind;
@@ -43,18 +41,17 @@ fn set_up<M: Store>(chip: &mut Chip<M>, voices: u32) {
 fn sum_of_ticks<M: Source>(chip: &mut Chip<M>, count: u32) -> i64 {
     let mut frame = Frame::default();
     let mut sum: i64 = 0;
-    for i in 0..count {
+    for _ in 0..count {
         let _ = chip.tick(&mut frame);
-        sum = sum.wrapping_add(weighed(&frame, (i % 8) as usize));
+        sum = sum.wrapping_add(weighed(&frame));
     }
     sum
 }
 
-// Each part of a frame counts, and contributions whose place no compiler knows, so that none is left out.
-fn weighed(frame: &Frame, voice: usize) -> i64
-    requires { voice < 8 }
-{
+// Each part of a frame counts, and contributions at a place that the left word names, so that none is left out.
+fn weighed(frame: &Frame) -> i64 {
     let (left, right) = (&frame.left, &frame.right);
+    let voice = usize::from(left.word % 8);
     let totals = i64::from(left.total) - 3 * i64::from(right.total);
     let items = i64::from(left.contributions[voice]) - 5 * i64::from(right.contributions[voice]);
     let words = i64::from(left.word) - 7 * i64::from(right.word);

@@ -16,9 +16,10 @@ const REGISTERS: [[u8; 7]; 8] = [
     [80, 0x1E, 0x0F, 0x10, 0, 0, 0x70],
 ];
 
-/// Each part of a frame counts, and contributions whose place no compiler knows, so that none is left out.
-fn weighed(frame: &Frame, voice: usize) -> i64 {
+/// Each part of a frame counts, and contributions at a place that the left word names, so that none is left out.
+fn weighed(frame: &Frame) -> i64 {
     let (left, right) = (&frame.left, &frame.right);
+    let voice = usize::from(left.word % 8);
     let totals = i64::from(left.total) - 3 * i64::from(right.total);
     let items = i64::from(left.contributions[voice]) - 5 * i64::from(right.contributions[voice]);
     let words = i64::from(left.word) - 7 * i64::from(right.word);
@@ -51,9 +52,9 @@ fn main() {
     chip.write(7, 0x80).expect("a register");
     let mut frame = Frame::default();
     let mut sum = 0;
-    for i in 0..TICKS {
+    for _ in 0..TICKS {
         chip.tick(&mut frame).expect("a tick");
-        sum += weighed(&frame, (i % 8) as usize);
+        sum += weighed(&frame);
     }
     println!("{sum}");
 }
