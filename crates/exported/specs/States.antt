@@ -105,7 +105,7 @@ chip_refusals = MemorySize ∷ BeyondPort ∷ NothingThere ∷ Sounding ∷ Past
 abbrev pub chip_refusal_of : ℕ → Option Refusal
 chip_refusal_of n = find (λ refusal. chip-number refusal == n) chip_refusals
 
--- a log's fault where one has the number, and else a chip's refusal; a number that none has is one past the window
+-- a log's fault where one has the number, and else a chip's refusal; where no case has the number, `PastWindow` stands
 abbrev pub by_layer : Option LogFault → PlayerState → Fault
 by_layer (Some fault) p = Log fault p.bit
 by_layer None p = Chip (unwrap_or (chip_refusal_of p.number) PastWindow) p.bit (present p.has_address p.address)

@@ -169,7 +169,7 @@ pub fn record_log(
     answer(whole_log::record(header, records, buffer))
 }
 
-// Records a log again into a buffer.
+// Takes a log's bytes over into a buffer, and answers as if the log were recorded again.
 pub fn copy_log(log: &[u8], buffer: &mut [u8]) -> Recorded
     ensures answer { result ≡ recorded_answer (copied log.now buffer.old).answer }
     ensures buffer { buffer.new ≡ (copied log.now buffer.old).buffer }
