@@ -3,7 +3,7 @@ ghost use Rattle.std.specs.Prelude.{◌≡◌};
 ghost use Rattle.outcome.specs.Outcome.{granted};
 ghost use Rattle.wave.specs.Memory.{store, written};
 ghost use Rattle.wave.specs.Means.{means};
-ghost use Rattle.wave.specs.Board.{joined, cut_off, loans, either, board, second_written, joined_within};
+ghost use Rattle.wave.specs.Board.{joined, cut_off, loans, either, board, second_written};
 
 use crate::memory::{MOST, Refusal, Source, Store};
 
@@ -15,8 +15,6 @@ pub struct Board<A, B> {
 
 impl<A: Source, B: Source> Source for Board<A, B> {
     ghost bytes = { λ s. joined (A.bytes s.first) (B.bytes s.second) };
-
-    ghost size_bounded = { λ s. joined_within (A.bytes s.first) (B.bytes s.second) };
 
     #[tactic(auto, using(crate::proofs::Joins::joined_length))]
     fn size(&self) -> usize {

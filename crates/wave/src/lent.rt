@@ -1,6 +1,6 @@
 // A memory over lent bytes, of which it uses the first `MOST`.
 ghost use Rattle.std.specs.Prelude.{◌≡◌};
-ghost use Rattle.wave.specs.Lent.{used, used_within};
+ghost use Rattle.wave.specs.Lent.{used};
 
 use crate::memory::{MOST, Refusal, Source};
 use std::convert::AsSlice;
@@ -14,8 +14,7 @@ pub struct Lent<B> {
 impl<B: AsSlice<u8>> Source for Lent<B> {
     ghost bytes = { λ s. used (B.items s.lent) };
 
-    ghost size_bounded = { λ s. used_within (B.items s.lent) };
-
+    #[tactic(auto, using(crate::specs::Lent::used_within))]
     fn size(&self) -> usize {
         used(self.lent.as_slice()).len()
     }

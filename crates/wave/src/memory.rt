@@ -29,12 +29,11 @@ pub trait Source {
     ghost bytes: { Self → List ℕ };
 
     fn size(&self) -> usize
-        ensures { result ≡ length (bytes self.now) };
+        ensures exact { result ≡ length (bytes self.now) }
+        ensures bound { result ≤ most };
 
     fn read(&self, place: usize) -> Result<u8, Refusal>
         ensures { result ≡ fetch (bytes self.now) place };
-
-    ghost size_bounded: { (s : Self) → length (bytes s) ≤ most };
 }
 
 pub trait Store: Source {

@@ -1,6 +1,7 @@
 // Wave memories at the sizes where something changes.
 #![tactic(auto)]
 
+pub mod bank;
 #[cfg(test)]
 mod boards;
 #[cfg(test)]

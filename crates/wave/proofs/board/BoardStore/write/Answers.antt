@@ -11,7 +11,7 @@ pub returns-then-place-size : goal.returns-then-place-size
 returns-then-place-size g c =
     let m : Memory = means g.A.Source.bytes g.A.Store.takes c.args.self.now.first in
     let n : Memory = means g.B.Source.bytes g.B.Store.takes c.args.self.now.second in
-    let short : size m ≤ most = g.met.A.Source.size_bounded c.args.self.now.first in
+    let short : size m ≤ most = omega arith in
     let here : c.args.place < size m = omega arith in
     record {
       answer = c.write.ensures.answer ∙ sym (granted_first m n c.args.place c.args.byte short here);
@@ -29,7 +29,7 @@ returns-then-place-lt-MOST g c =
     let n : Memory = means g.B.Source.bytes g.B.Store.takes c.args.self.now.second in
     let there : size m ≤ c.args.place = omega arith in
     let near : c.args.place < most = omega arith in
-    let left = c.size-size.ensures in
+    let left = c.size-size.ensures.exact in
     let after = c.write-then-place-lt-MOST.ensures.after ∙ ap (λ s. written n (c.args.place - s) c.args.byte) left in
     record {
       answer =
