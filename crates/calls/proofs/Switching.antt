@@ -5,8 +5,8 @@ use Rattle.wave.specs.Memory.{Memory}
 use Rattle.voice.specs.Voice.{positions, step, position, onward, landing, sounded, silent, tick}
 use Rattle.voice.specs.declared.voice.Voice.{Voice}
 use Rattle.chip.specs.Control.{bit}
-use Rattle.chip.specs.Port.{State}
-use Rattle.chip.specs.Registers.{stands}
+use Rattle.chip.specs.Port.{State, with_registers}
+use Rattle.chip.specs.Registers.{stands, ticked}
 use Rattle.chip.specs.declared.registers.Setup.{Setup}
 use Rattle.calls.specs.Calls.{after, after_all}
 use Rattle.calls.specs.Law.{new, voice_of, found_on, granted, ReadsFrom, Law}
@@ -14,6 +14,16 @@ use Rattle.calls.specs.declared.Call.{Call}
 use Rattle.calls.specs.declared.Call.TheVariants.{Tick}
 use Rattle.chip.proofs.Each.{each_at}
 use Rattle.calls.proofs.Keeps.{Eight, eight_kept, InPhase, phase_kept, rest_kept, Muted, muted_kept, all_bits}
+
+-- A tick
+
+-- a granted one
+tick_granted : (s : State) → granted s ≡ true → after Tick s ≡ with_registers s (ticked s.memory.bytes s.registers)
+tick_granted s h = rw h refl
+
+-- a refused one
+tick_refused : (s : State) → granted s ≡ false → after Tick s ≡ s
+tick_refused s h = rw h refl
 
 -- A voice over a granted tick
 

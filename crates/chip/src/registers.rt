@@ -1,7 +1,7 @@
 // All that a chip holds beside its memory.
 ghost use Rattle.std.specs.Prelude.{◌≡◌, ◌<◌, slice_index_or};
 ghost use Rattle.voice.specs.Voice.{fresh, Bounded};
-ghost use Rattle.voice.specs.Frame.{AllBounded};
+ghost use Rattle.voice.specs.Frame.{AllBounded, VoicesBounded};
 ghost use Rattle.chip.specs.Registers.{made, with_byte, edited, chosen, registered, position_byte, sounds, voice_ticked, ticked, latest};
 
 use crate::control::{Control, bit};
@@ -68,6 +68,7 @@ impl Registers {
         ensures exact { self.new ≡ ticked (S.bytes memory.now) self.old }
         ensures told { result ≡ latest self.new }
         ensures bounded { AllBounded result }
+        ensures voices { VoicesBounded self.new.voices }
     {
         [
             self.tick_voice(memory, 0),

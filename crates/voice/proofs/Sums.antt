@@ -4,12 +4,13 @@ use lib.IntN.{+ℤ_comm, +ℤ_assoc}
 use Rattle.std.proofs.ByRecursion.{All-map, All-weaker}
 use Rattle.std.proofs.lemmas.Int.{ints}
 use Rattle.std.proofs.lemmas.List.{length-map}
-use Rattle.voice.specs.Voice.{Contribution, loudest, Within, Bounded}
+use Rattle.voice.specs.Voice.{Contribution, loudest, Within, Bounded, latest}
 use Rattle.voice.specs.Stereo.{of_side}
-use Rattle.voice.specs.Frame.{side_contributions, sum, side, frame_of, TotalWithin, AllWithin, AllBounded, RangedSide, Ranged}
+use Rattle.voice.specs.Frame.{side_contributions, sum, side, frame_of, TotalWithin, AllWithin, AllBounded, VoicesBounded, RangedSide, Ranged}
 use Rattle.voice.specs.declared.frame.Converter.{Converter}
 use Rattle.voice.specs.declared.stereo.SideName.{SideName}
 use Rattle.voice.specs.declared.stereo.SideName.TheVariants.{Left, Right}
+use Rattle.voice.specs.declared.voice.Voice.{Voice}
 
 sum-suc : (xs : List ℤ) (k : ℕ) → k < length xs → sum (take (suc k) xs) ≡ sum (take k xs) +ℤ get_or xs k (pos 0)
 sum-suc [] k h = absurd (omega arith)
@@ -26,9 +27,18 @@ side_within : (name : SideName) (x : Contribution) → Bounded x → Within (of_
 side_within Left x h = h.0
 side_within Right x h = h.1
 
-contributions_within : (name : SideName) (list : List Contribution) → AllBounded list → AllWithin (side_contributions name list)
+pub contributions_within : (name : SideName) (list : List Contribution) → AllBounded list → AllWithin (side_contributions name list)
 contributions_within name list h =
     All-map Within (λ c. of_side name c) list (All-weaker Bounded (λ c. Within (of_side name c)) (λ c. side_within name c) list h)
+
+-- voices whose latest contributions are in range, one by one and as a list
+pub voices_bounded : (voices : List Voice) → AllBounded (latest voices) → VoicesBounded voices
+voices_bounded [] h = tt
+voices_bounded (v ∷ voices) h = (h.0, voices_bounded voices h.1)
+
+pub latest_bounded : (voices : List Voice) → VoicesBounded voices → AllBounded (latest voices)
+latest_bounded [] h = tt
+latest_bounded (v ∷ voices) h = (h.0, latest_bounded voices h.1)
 
 sum_range :
     (xs : List ℤ) → AllWithin xs →
@@ -39,7 +49,7 @@ sum_range (x ∷ xs) h =
     let first = h.0 in
     (omega (arith, ints), omega (arith, ints))
 
-sum_within : (xs : List ℤ) → length xs ≡ 8 → AllWithin xs → TotalWithin (sum xs)
+pub sum_within : (xs : List ℤ) → length xs ≡ 8 → AllWithin xs → TotalWithin (sum xs)
 sum_within xs l h =
     let most = sum_range xs h in
     (omega (arith, ints), omega (arith, ints))

@@ -84,6 +84,10 @@ AllWithin xs = AllByRecursion Within xs
 abbrev pub AllBounded : List Contribution → Type 0
 AllBounded list = AllByRecursion Bounded list
 
+-- each voice's latest contribution is in range
+abbrev pub VoicesBounded : List Voice → Type 0
+VoicesBounded voices = AllByRecursion (λ v. Bounded v.latest) voices
+
 -- a side whose contributions and total are in range
 abbrev pub RangedSide : Side → Type 0
 RangedSide s = AllWithin s.contributions × TotalWithin s.total

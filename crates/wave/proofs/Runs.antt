@@ -1,5 +1,5 @@
 -- Accesses performed one by one on two memories.
-use Rattle.std.proofs.Common.{◌≡◌, ◌↔◌, IsTrue, ℕ, ◌≤◌, Bool, true, ◌&&◌, ltb, List, [], ◌∷◌, ◌++◌, length, sym, refl, ap, ◌∙◌, subst, ap₂, ⊎_elim}
+use Rattle.std.proofs.Common.{◌≡◌, ◌↔◌, IsTrue, ℕ, suc, ◌≤◌, Bool, true, ◌&&◌, ltb, List, [], ◌∷◌, ◌++◌, length, sym, refl, ap, ◌∙◌, subst, ap₂, ⊎_elim}
 use mathlib.Core.Path.{fun_ext}
 use Rattle.std.proofs.lemmas.List.{same_from_push}
 use Rattle.std.proofs.lemmas.Bool.{le-ltb, cases_lt, and_parts, and_from}
@@ -26,6 +26,11 @@ after_push m (y ∷ xs) x = after_push (after m y) xs x
 answers_push : (m : Memory) (xs : List Access) (x : Access) → answers m (xs ++ x ∷ []) ≡ answers m xs ++ answer (after_all m xs) x ∷ []
 answers_push m [] x = refl
 answers_push m (y ∷ xs) x = ap (λ r. answer m y ∷ r) (answers_push (after m y) xs x)
+
+-- one to each access
+answers_length : (m : Memory) (xs : List Access) → length (answers m xs) ≡ length xs
+answers_length m [] = refl
+answers_length m (x ∷ xs) = ap suc (answers_length (after m x) xs)
 
 module _ (m n : Memory) (xs : List Access) (x : Access) where
   more : answers m xs ≡ answers n xs → answer (after_all m xs) x ≡ answer (after_all n xs) x → answers m (xs ++ x ∷ []) ≡ answers n (xs ++ x ∷ [])
