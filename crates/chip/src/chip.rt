@@ -153,7 +153,8 @@ impl<M: Source> Chip<M> {
 }
 
 impl<M: Store> Chip<M> {
-    // A host's write.
+    // A host's write. A player writes a block byte by byte, and takes half the time for it where no call is made.
+    #[inline]
     pub fn write(&mut self, address: u16, byte: u8) -> Result<(), Refusal>
         ensures answer { result ≡ granted (write (state M.bytes M.takes self.old) address byte) }
         ensures after { state M.bytes M.takes self.new

@@ -34,12 +34,17 @@ impl TryFrom<u16> for Target {
     ghost try_from_gives = { λ address r. r ≡ target address };
 
     fn try_from(address: u16) -> Result<Target, Refusal> {
+        if address > LAST_ADDRESS {
+            return Err(Refusal::BeyondPort);
+        }
+        // before the match: a block is written here byte by byte, and a match tests the low addresses first
+        if address >= WINDOW_START {
+            return Ok(Target::Window(address - WINDOW_START));
+        }
         match address {
             ..=LAST_REGISTER => Ok(Target::Register(address)),
             POSITIONS_START..=POSITIONS_LAST => Ok(Target::Position(address - POSITIONS_START)),
-            WINDOW_START..=LAST_ADDRESS => Ok(Target::Window(address - WINDOW_START)),
-            ..WINDOW_START => Err(Refusal::NothingThere),
-            _ => Err(Refusal::BeyondPort),
+            _ => Err(Refusal::NothingThere),
         }
     }
 }

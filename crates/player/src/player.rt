@@ -230,12 +230,15 @@ fn put<M: Store>(chip: &mut Chip<M>, bit: usize, first: u16, bytes: &[u8]) -> Re
         ≡ put_down result place (state M.bytes M.takes chip.new) }
     ensures same_borrows { M.borrows chip.new.memory ≡ M.borrows chip.old.memory }
 {
-    for (byte, address) in bytes.iter().zip(first..) {
+    // counted by hand: a `zip` with `first..` tests at each byte whether the addresses are at their end, too
+    let mut address = first;
+    for byte in bytes {
         chip.write(address, *byte).map_err(|refusal| Fault::Chip {
             refusal,
             bit,
             address: Some(address),
         })?;
+        address += 1;
     }
     Ok(())
 }
